@@ -1,0 +1,164 @@
+-- A block keeps its kind, and so its ports: the next, the fed and the acceptably tuned record count as the same kind.
+use mathlib.Core.Path.{_≡_, refl, sym, ap, _∙_}
+use mathlib.Core.Bool.{Bool, true, false, cond, not, _&&_}
+use Prim.Native.Nat.{ℕ, _≤_}
+use native.Mathlib.Omega.{arith}
+use lib.IntN.{ℤ, pos, natAbs, _+ℤ_, _-ℤ_, _*ℤ_}
+use Rattle.std.proofs.shelf.Signed.{ints}
+use Rattle.std.proofs.shelf.Ways.{tells}
+use Rattle.std.proofs.shelf.Tests.{cond-true, cond-both, and-parts, and-from}
+use Rattle.std.specs.Options.{isSome}
+use Rattle.std.specs.declared.option.Option.{Option}
+use Rattle.std.specs.declared.option.Option.the-variants.{None, Some}
+use Rattle.family.specs.declared.values.Inputs.{Inputs}
+use Rattle.family.specs.declared.values.Params.{Params}
+use Rattle.family.specs.Laws.{Same-ports, Kind-law}
+use Rattle.family.specs.Params.{within}
+use Rattle.loop_blocks.specs.declared.record.Kind.{Kind}
+use Rattle.loop_blocks.specs.declared.record.Kind.the-variants.{In, Pid, Pidt, Lim, Root, Lag, Hold, Low, High, Sum, Gain}
+use Rattle.loop_blocks.specs.declared.record.Limits.{Limits}
+use Rattle.loop_blocks.specs.declared.record.LoopRecord.{LoopRecord}
+use Rattle.loop_blocks.specs.Whole.{span, wide, thousandth}
+use Rattle.loop_blocks.specs.Pid.{movedOf, sumOf, shifted}
+use Rattle.loop_blocks.specs.Lag.{lagNext}
+use Rattle.loop_blocks.specs.Kinds.{kindOf, portsOf, lateOf, badOf}
+use Rattle.loop_blocks.specs.Counts.{limitsOf, statesFit, fits, idle, kindFor, recordFor, kindIn, counted, heard, heardAll}
+use Rattle.loop_blocks.specs.Loops.{ports, late, next, fed, unfit, tuned, nextOf, takesOf, fedOf, retuned, withU}
+use Rattle.loop_blocks.specs.Ranges.{PidRanges, LagRanges}
+use Rattle.loop_blocks.proofs.Lagging.{stays}
+
+-- a record that passes its kind's test counts as itself, any other as idle, which passes the test of `in`
+by-test : (b : Bool) (t : Kind) (k : LoopRecord) → fits t k ≡ b → kindOf (k .code) ≡ Some t →
+    (fits (cond b t In) (cond b k idle) ≡ true) × (kindOf (cond b k idle .code) ≡ Some (cond b t In))
+by-test true t k e c = (e, c)
+by-test false t k e c = (refl, refl)
+
+by-kind : (o : Option Kind) (k : LoopRecord) → kindOf (k .code) ≡ o →
+    (fits (kindFor o k) (recordFor o k) ≡ true) × (kindOf (recordFor o k .code) ≡ Some (kindFor o k))
+by-kind None k c = (refl, refl)
+by-kind (Some t) k c = by-test (fits t k) t k refl c
+
+-- a record with the code of a kind that passes the kind's test counts as that kind
+counts-as : (t : Kind) (k : LoopRecord) → kindOf (k .code) ≡ Some t → fits t k ≡ true → kindIn k ≡ t
+counts-as t k c e = ap (λ (o : Option Kind). kindFor o k) c ∙ cond-true (fits t k) t In e
+
+-- a change that keeps the code and the test keeps the kind
+kept : (k : LoopRecord) (change : Kind → LoopRecord → LoopRecord) →
+    change (kindIn k) (counted k) .code ≡ counted k .code →
+    (fits (kindIn k) (counted k) ≡ true → fits (kindIn k) (change (kindIn k) (counted k)) ≡ true) →
+    kindIn (change (kindIn k) (counted k)) ≡ kindIn k
+kept k change same keeps =
+    let was = by-kind (kindOf (k .code)) k refl in
+    counts-as (kindIn k) (change (kindIn k) (counted k)) (ap kindOf same ∙ was .1) (keeps (was .0))
+
+heard-small : (s : ℤ) → natAbs (heard s) ≤ 1000000
+heard-small s = grind (arith, tells, ints)
+
+wide-small : (n : ℤ) → natAbs (wide n) ≤ 1000000000
+wide-small n = grind (arith, tells, ints)
+
+span-small : (n : ℤ) → natAbs (span n) ≤ 1000000
+span-small n = grind (arith, tells, ints)
+
+-- states within their limits pass
+states-pass : (m : Limits) (k : LoopRecord) → natAbs (k .u) ≤ m .u → natAbs (k .v) ≤ m .v → natAbs (k .w) ≤ m .w → natAbs (k .z) ≤ m .z → statesFit m k ≡ true
+states-pass m k hu hv hw hz = grind (arith, tells)
+
+-- the two halves of a kind's test
+params-pass : (t : Kind) (k : LoopRecord) → fits t k ≡ true → not (isSome (badOf t (k .params))) ≡ true
+params-pass t k h = and-parts (not (isSome (badOf t (k .params)))) (statesFit (limitsOf t) k) h .0
+
+passes : (t : Kind) (k : LoopRecord) → not (isSome (badOf t (k .params))) ≡ true → statesFit (limitsOf t) k ≡ true → fits t k ≡ true
+passes t k = and-from (not (isSome (badOf t (k .params)))) (statesFit (limitsOf t) k)
+
+-- a controller's record that passes lies in its ranges
+pid-ranges : (k : LoopRecord) → fits Pid k ≡ true → PidRanges k
+pid-ranges k h = record {
+  p-range = grind (arith, tells);
+  q-range = grind (arith, tells);
+  r-range = grind (arith, tells);
+  u-range = grind (arith, tells);
+  v-range = grind (arith, tells);
+  w-range = grind (arith, tells);
+  z-range = grind (arith, tells);
+}
+
+-- and so does a lag's
+lag-ranges : (k : LoopRecord) → fits Lag k ≡ true → LagRanges k
+lag-ranges k h = record { p-low = grind (arith, tells, ints); p-high = grind (arith, tells, ints); u-range = grind (arith, tells) }
+
+-- a controller's record that is shifted passes, where its state is limited
+shifted-fits : (k : LoopRecord) (x : Inputs ℤ) (n : ℤ) → fits Pid k ≡ true → fits Pid (shifted k (heard (x .a)) (heard (x .b)) (wide n)) ≡ true
+shifted-fits k x n h =
+    let a = heard-small (x .a) in
+    let b = heard-small (x .b) in
+    let e : natAbs (heard (x .a) -ℤ heard (x .b)) ≤ 2000000 = omega (arith, ints) in
+    let q = shifted k (heard (x .a)) (heard (x .b)) (wide n) in
+    passes Pid q (params-pass Pid k h) (states-pass (limitsOf Pid) q (wide-small n) e b (pid-ranges k h .w-range))
+
+-- the next record passes
+next-fits : (t : Kind) (k : LoopRecord) (x : Inputs ℤ) → fits t k ≡ true → fits t (nextOf t k (heardAll x)) ≡ true
+next-fits In k x h = h
+next-fits Pid k x h = shifted-fits k x (movedOf k (heard (x .a)) (heard (x .b))) h
+next-fits Pidt k x h =
+    let s = sumOf k (heard (x .a)) (heard (x .b)) in
+    shifted-fits k x (s +ℤ pos 1000 *ℤ (heard (x .c) -ℤ thousandth s)) h
+next-fits Lim k x h = h
+next-fits Root k x h = h
+next-fits Lag k x h =
+    let r = lag-ranges k h in
+    let u : natAbs (lagNext (k .params .p) (heard (x .a)) (k .u)) ≤ 1000000000 = stays (k .params .p) (heard (x .a)) (k .u) (r .p-low) (r .p-high) (heard-small (x .a)) (r .u-range) in
+    grind (arith, tells)
+next-fits Hold k x h = let u = heard-small (x .a) in grind (arith, tells)
+next-fits Low k x h = h
+next-fits High k x h = h
+next-fits Sum k x h = h
+next-fits Gain k x h = h
+
+-- the next record has the code of the record before
+next-code : (t : Kind) (k : LoopRecord) (x : Inputs ℤ) → nextOf t k x .code ≡ k .code
+next-code In k x = refl
+next-code Pid k x = refl
+next-code Pidt k x = refl
+next-code Lim k x = refl
+next-code Root k x = refl
+next-code Lag k x = refl
+next-code Hold k x = refl
+next-code Low k x = refl
+next-code High k x = refl
+next-code Sum k x = refl
+next-code Gain k x = refl
+
+-- the fed record passes
+fed-fits : (t : Kind) (k : LoopRecord) (n : ℤ) → fits t k ≡ true → fits t (fedOf t k n) ≡ true
+fed-fits In k n h = let u = span-small n in grind (arith, tells)
+fed-fits Pid k n h = h
+fed-fits Pidt k n h = h
+fed-fits Lim k n h = h
+fed-fits Root k n h = h
+fed-fits Lag k n h = h
+fed-fits Hold k n h = h
+fed-fits Low k n h = h
+fed-fits High k n h = h
+fed-fits Sum k n h = h
+fed-fits Gain k n h = h
+
+-- the fed record has the code of the record before
+fed-code : (t : Kind) (k : LoopRecord) (n : ℤ) → fedOf t k n .code ≡ k .code
+fed-code t k n = cond-both (takesOf t) (withU k (span n)) k (λ q. q .code ≡ k .code) (λ _. refl) (λ _. refl)
+
+-- the acceptably tuned record passes: its states are judged alone
+tuned-fits : (t : Kind) (k : LoopRecord) (x : Params) → badOf t x ≡ None → fits t k ≡ true → fits t (retuned k x) ≡ true
+tuned-fits t k x none h =
+    passes t (retuned k x) (ap (λ (o : Option ℕ). not (isSome o)) none) (and-parts (not (isSome (badOf t (k .params)))) (statesFit (limitsOf t) k) h .1)
+
+-- records of one kind have the same ports
+same-ports : (q k : LoopRecord) → kindIn q ≡ kindIn k → Same-ports ports late q k
+same-ports q k e = (ap portsOf e, λ i. ap (λ (t : Kind). lateOf t i) e)
+
+pub kind-law : Kind-law ports late next fed unfit tuned
+kind-law = record {
+  next-same = λ k x. same-ports (next k x) k (kept k (λ t q. nextOf t q (heardAll x)) (next-code (kindIn k) (counted k) (heardAll x)) (next-fits (kindIn k) (counted k) x));
+  fed-same = λ k n. same-ports (fed k n) k (kept k (λ t q. fedOf t q n) (fed-code (kindIn k) (counted k) n) (fed-fits (kindIn k) (counted k) n));
+  tuned-same = λ k x none. same-ports (tuned k x) k (kept k (λ t q. retuned q x) refl (tuned-fits (kindIn k) (counted k) x none));
+}

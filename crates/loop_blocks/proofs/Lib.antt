@@ -1,0 +1,5 @@
+mod Products
+mod Lagging
+mod Squares
+mod Lateness
+mod Kept
