@@ -38,20 +38,24 @@ by-kind : (o : Option Kind) (k : LoopRecord) → kindOf (k .code) ≡ o →
 by-kind None k c = (refl, refl)
 by-kind (Some t) k c = by-test (fits t k) t k refl c
 
--- a record with the code of a kind that passes the kind's test counts as that kind
-counts-as : (t : Kind) (k : LoopRecord) → kindOf (k .code) ≡ Some t → fits t k ≡ true → kindIn k ≡ t
-counts-as t k c e = ap (λ (o : Option Kind). kindFor o k) c ∙ cond-true (fits t k) t In e
+-- so what a record counts as passes the test of the kind that it counts as
+pub counted-fits : (k : LoopRecord) → fits (kindIn k) (counted k) ≡ true
+counted-fits k = by-kind (kindOf (k .code)) k refl .0
 
--- a change that keeps the code and the test keeps the kind
+-- a record with the code of a kind that passes the kind's test counts as that kind, and as itself
+counts-as : (t : Kind) (k : LoopRecord) → kindOf (k .code) ≡ Some t → fits t k ≡ true → (kindIn k ≡ t) × (counted k ≡ k)
+counts-as t k c e =
+    (ap (λ (o : Option Kind). kindFor o k) c ∙ cond-true (fits t k) t In e, ap (λ (o : Option Kind). recordFor o k) c ∙ cond-true (fits t k) k idle e)
+
+-- a change that keeps the code and the test keeps the kind, and gives what counts as itself
 kept : (k : LoopRecord) (change : Kind → LoopRecord → LoopRecord) →
     change (kindIn k) (counted k) .code ≡ counted k .code →
     (fits (kindIn k) (counted k) ≡ true → fits (kindIn k) (change (kindIn k) (counted k)) ≡ true) →
-    kindIn (change (kindIn k) (counted k)) ≡ kindIn k
+    (kindIn (change (kindIn k) (counted k)) ≡ kindIn k) × (counted (change (kindIn k) (counted k)) ≡ change (kindIn k) (counted k))
 kept k change same keeps =
-    let was = by-kind (kindOf (k .code)) k refl in
-    counts-as (kindIn k) (change (kindIn k) (counted k)) (ap kindOf same ∙ was .1) (keeps (was .0))
+    counts-as (kindIn k) (change (kindIn k) (counted k)) (ap kindOf same ∙ by-kind (kindOf (k .code)) k refl .1) (keeps (counted-fits k))
 
-heard-small : (s : ℤ) → natAbs (heard s) ≤ 1000000
+pub heard-small : (s : ℤ) → natAbs (heard s) ≤ 1000000
 heard-small s = grind (arith, tells, ints)
 
 wide-small : (n : ℤ) → natAbs (wide n) ≤ 1000000000
@@ -84,7 +88,7 @@ pid-ranges k h = record {
 }
 
 -- and so does a lag's
-lag-ranges : (k : LoopRecord) → fits Lag k ≡ true → LagRanges k
+pub lag-ranges : (k : LoopRecord) → fits Lag k ≡ true → LagRanges k
 lag-ranges k h = record { p-low = grind (arith, tells, ints); p-high = grind (arith, tells, ints); u-range = grind (arith, tells) }
 
 -- a controller's record that is shifted passes, where its state is limited
@@ -156,9 +160,13 @@ tuned-fits t k x none h =
 same-ports : (q k : LoopRecord) → kindIn q ≡ kindIn k → Same-ports ports late q k
 same-ports q k e = (ap portsOf e, λ i. ap (λ (t : Kind). lateOf t i) e)
 
+-- the next record is of the same kind, and counts as itself
+pub next-kept : (k : LoopRecord) (x : Inputs ℤ) → (kindIn (next k x) ≡ kindIn k) × (counted (next k x) ≡ next k x)
+next-kept k x = kept k (λ t q. nextOf t q (heardAll x)) (next-code (kindIn k) (counted k) (heardAll x)) (next-fits (kindIn k) (counted k) x)
+
 pub kind-law : Kind-law ports late next fed unfit tuned
 kind-law = record {
-  next-same = λ k x. same-ports (next k x) k (kept k (λ t q. nextOf t q (heardAll x)) (next-code (kindIn k) (counted k) (heardAll x)) (next-fits (kindIn k) (counted k) x));
-  fed-same = λ k n. same-ports (fed k n) k (kept k (λ t q. fedOf t q n) (fed-code (kindIn k) (counted k) n) (fed-fits (kindIn k) (counted k) n));
-  tuned-same = λ k x none. same-ports (tuned k x) k (kept k (λ t q. retuned q x) refl (tuned-fits (kindIn k) (counted k) x none));
+  next-same = λ k x. same-ports (next k x) k (next-kept k x .0);
+  fed-same = λ k n. same-ports (fed k n) k (kept k (λ t q. fedOf t q n) (fed-code (kindIn k) (counted k) n) (fed-fits (kindIn k) (counted k) n) .0);
+  tuned-same = λ k x none. same-ports (tuned k x) k (kept k (λ t q. retuned q x) refl (tuned-fits (kindIn k) (counted k) x none) .0);
 }

@@ -3,3 +3,4 @@ mod Lagging
 mod Squares
 mod Lateness
 mod Kept
+mod Settling

@@ -1,14 +1,23 @@
 -- The root rounded down: there is one, and only one.
-use mathlib.Core.Path.{_≡_}
+use mathlib.Core.Path.{_≡_, sym, ap, _∙_, subst}
 use mathlib.Core.Bool.{cond}
 use mathlib.Core.Logic.{inl, inr}
 use Prim.Native.Nat.{ℕ, zero, suc, _+_, _*_, _≤_, _<_}
 use native.Mathlib.Omega.{arith}
 use native.Mathlib.Nat.{add-mul, mul-add}
 use lib.Dec.{leb}
+use lib.Signed.{ltZ}
 use Rattle.std.proofs.shelf.Bits.{mul-le}
-use Rattle.std.proofs.shelf.Tests.{cases-order, cond-both, leb-true, leb-false}
-use Rattle.loop_blocks.specs.Root.{IsRoot, rise, rootOf}
+use Rattle.std.proofs.shelf.Signed.{ints}
+use Rattle.std.proofs.shelf.Tests.{cases-order, cond-both, cond-false, leb-true, leb-false}
+use lib.IntN.{ℤ, pos, natAbs}
+use Rattle.family.specs.declared.values.Inputs.{Inputs}
+use Rattle.loop_blocks.specs.declared.record.Kind.{Kind}
+use Rattle.loop_blocks.specs.declared.record.LoopRecord.{LoopRecord}
+use Rattle.loop_blocks.specs.Root.{IsRoot, rise, rootOf, rootOut}
+use Rattle.loop_blocks.specs.Counts.{counted, heardAll}
+use Rattle.loop_blocks.specs.Loops.{output, outputOf}
+use Rattle.loop_blocks.specs.Steady.{Root-exact}
 
 -- squares rise
 pub square-le : (a b : ℕ) → a ≤ b → a * a ≤ b * b
@@ -41,3 +50,13 @@ root-is (suc n) = rise-is n (rootOf n) (root-is n)
 -- whatever is the root of n is the one that the recursion gives
 pub is-root : (n r : ℕ) → IsRoot n r → r ≡ rootOf n
 is-root n r h = root-unique n r (rootOf n) h (root-is n)
+
+-- the output of an input that is not below 0
+not-below : (a : ℕ) → rootOut (pos a) ≡ pos (rootOf (1000000 * a))
+not-below a = cond-false (ltZ (pos a) (pos 0)) _ _ (grind (arith, ints))
+
+-- a root's output is exact
+pub root-exact : (k : LoopRecord) (x : Inputs ℤ) → Root-exact k x (output k x)
+root-exact k x a kind e =
+    let out : output k x ≡ pos (rootOf (1000000 * a)) = ap (λ (t : Kind). outputOf t (counted k) (heardAll x)) kind ∙ ap rootOut e ∙ not-below a in
+    subst (λ (y : ℤ). IsRoot (1000000 * a) (natAbs y)) (sym out) (root-is (1000000 * a))

@@ -6,3 +6,4 @@ pub mod Kinds
 pub mod Counts
 pub mod Loops
 pub mod Ranges
+pub mod Steady

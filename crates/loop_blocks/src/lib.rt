@@ -2,6 +2,7 @@
 ghost use mathlib.Core.Path.{_≡_};
 ghost use Rattle.loop_blocks.specs.Kinds.{codeOf};
 ghost use Rattle.loop_blocks.specs.Loops.{exists as isKind, bad as badOf, fresh as freshOf, ports as portsOf, late as lateOf, takes as takesOf, fed as fedOf, unfit as unfitOf, tuned as tunedOf, output as outputOf, next as nextOf, number as numberOf, rest as restOf};
+ghost use Rattle.loop_blocks.specs.Steady.{Lag-settles, Root-exact};
 
 mod blocks;
 mod counted;
@@ -109,7 +110,8 @@ pub impl Family for Loops as LoopFamily {
     }
 
     fn output(block: LoopRecord, inputs: Inputs<i32>) -> i32
-        ensures { λ s. ⌜ s ≡ outputOf block inputs ⌝ }
+        ensures value { λ s. ⌜ s ≡ outputOf block inputs ⌝ }
+        ensures root { λ s. ⌜ Root-exact block inputs s ⌝ }
     {
         read(block).output(hear_all(inputs))
     }
@@ -127,4 +129,12 @@ pub impl Family for Loops as LoopFamily {
     fn rest() -> i32 {
         0
     }
+}
+
+// How many scans of a steady input bring a lag's output to its input or one unit below it, for good.
+pub fn lag_scans() -> u32
+    ensures value { λ n. ⌜ n ≡ 2000000000 ⌝ }
+    ensures settled { λ n. ⌜ Lag-settles n ⌝ }
+{
+    2_000_000_000
 }
