@@ -1,7 +1,8 @@
 // Tests that the families share.
 ghost use mathlib.Core.Path.{_≡_};
 ghost use Rattle.std.specs.shelf.Text.{sameBytes};
-ghost use Rattle.family.specs.Params.{within, among, firstBad};
+ghost use Rattle.family.specs.Params.{within, among, firstBad, badBut};
+use crate::values::Params;
 
 // -n ≤ z ≤ n.
 pub fn is_within(z: i32, n: u32) -> bool
@@ -27,6 +28,13 @@ pub fn first_bad(p: bool, q: bool, r: bool) -> Option<u8>
         (true, true, false) => Some(2),
         (true, true, true) => None,
     }
+}
+
+// The first bad parameter, where p passed its test or not, and q and r have to be 0.
+pub fn bad_but(p: bool, params: Params) -> Option<u8>
+    ensures { λ n. ⌜ n ≡ badBut p params ⌝ }
+{
+    first_bad(p, is_within(params.q, 0), is_within(params.r, 0))
 }
 
 // Whether the text is the word.

@@ -3,6 +3,7 @@ mod checks;
 mod interface;
 mod values;
 
+pub use checks::bad_but;
 pub use checks::first_bad;
 pub use checks::is_among;
 pub use checks::is_within;

@@ -1,19 +1,19 @@
 -- A block keeps its kind, and so its ports: the next, the fed and the acceptably tuned record count as the same kind.
-use mathlib.Core.Path.{_≡_, refl, sym, ap, _∙_}
-use mathlib.Core.Bool.{Bool, true, false, cond, not, _&&_}
+use mathlib.Core.Path.{_≡_, refl, ap}
+use mathlib.Core.Bool.{true, not}
 use Prim.Native.Nat.{ℕ, _≤_}
 use native.Mathlib.Omega.{arith}
 use lib.IntN.{ℤ, pos, natAbs, _+ℤ_, _-ℤ_, _*ℤ_}
 use Rattle.std.proofs.shelf.Signed.{ints}
 use Rattle.std.proofs.shelf.Ways.{tells}
-use Rattle.std.proofs.shelf.Tests.{cond-true, cond-both, and-parts, and-from}
+use Rattle.std.proofs.shelf.Tests.{cond-both, and-parts, and-from}
 use Rattle.std.specs.Options.{isSome}
 use Rattle.std.specs.declared.option.Option.{Option}
-use Rattle.std.specs.declared.option.Option.the-variants.{None, Some}
+use Rattle.std.specs.declared.option.Option.the-variants.{None}
 use Rattle.family.specs.declared.values.Inputs.{Inputs}
 use Rattle.family.specs.declared.values.Params.{Params}
 use Rattle.family.specs.Laws.{Same-ports, Kind-law}
-use Rattle.family.specs.Params.{within}
+use Rattle.family.proofs.Counting as counting
 use Rattle.loop_blocks.specs.declared.record.Kind.{Kind}
 use Rattle.loop_blocks.specs.declared.record.Kind.the-variants.{In, Pid, Pidt, Lim, Root, Lag, Hold, Low, High, Sum, Gain}
 use Rattle.loop_blocks.specs.declared.record.Limits.{Limits}
@@ -22,38 +22,18 @@ use Rattle.loop_blocks.specs.Whole.{span, wide, thousandth}
 use Rattle.loop_blocks.specs.Pid.{movedOf, sumOf, shifted}
 use Rattle.loop_blocks.specs.Lag.{lagNext}
 use Rattle.loop_blocks.specs.Kinds.{kindOf, portsOf, lateOf, badOf}
-use Rattle.loop_blocks.specs.Counts.{limitsOf, statesFit, fits, idle, kindFor, recordFor, kindIn, counted, heard, heardAll}
+use Rattle.loop_blocks.specs.Counts.{limitsOf, statesFit, fits, idle, kindIn, counted, heard, heardAll}
 use Rattle.loop_blocks.specs.Loops.{ports, late, next, fed, unfit, tuned, nextOf, takesOf, fedOf, retuned, withU}
 use Rattle.loop_blocks.specs.Ranges.{PidRanges, LagRanges}
 use Rattle.loop_blocks.proofs.Lagging.{stays}
 
--- a record that passes its kind's test counts as itself, any other as idle, which passes the test of `in`
-by-test : (b : Bool) (t : Kind) (k : LoopRecord) → fits t k ≡ b → kindOf (k .code) ≡ Some t →
-    (fits (cond b t In) (cond b k idle) ≡ true) × (kindOf (cond b k idle .code) ≡ Some (cond b t In))
-by-test true t k e c = (e, c)
-by-test false t k e c = (refl, refl)
-
-by-kind : (o : Option Kind) (k : LoopRecord) → kindOf (k .code) ≡ o →
-    (fits (kindFor o k) (recordFor o k) ≡ true) × (kindOf (recordFor o k .code) ≡ Some (kindFor o k))
-by-kind None k c = (refl, refl)
-by-kind (Some t) k c = by-test (fits t k) t k refl c
-
--- so what a record counts as passes the test of the kind that it counts as
+-- what a record counts as passes the test of the kind that it counts as
 pub counted-fits : (k : LoopRecord) → fits (kindIn k) (counted k) ≡ true
-counted-fits k = by-kind (kindOf (k .code)) k refl .0
+counted-fits = counting.counted-fits (λ (k : LoopRecord). k .code) kindOf fits In idle refl refl
 
--- a record with the code of a kind that passes the kind's test counts as that kind, and as itself
-counts-as : (t : Kind) (k : LoopRecord) → kindOf (k .code) ≡ Some t → fits t k ≡ true → (kindIn k ≡ t) × (counted k ≡ k)
-counts-as t k c e =
-    (ap (λ (o : Option Kind). kindFor o k) c ∙ cond-true (fits t k) t In e, ap (λ (o : Option Kind). recordFor o k) c ∙ cond-true (fits t k) k idle e)
-
--- a change that keeps the code and the test keeps the kind, and gives what counts as itself
-kept : (k : LoopRecord) (change : Kind → LoopRecord → LoopRecord) →
-    change (kindIn k) (counted k) .code ≡ counted k .code →
-    (fits (kindIn k) (counted k) ≡ true → fits (kindIn k) (change (kindIn k) (counted k)) ≡ true) →
-    (kindIn (change (kindIn k) (counted k)) ≡ kindIn k) × (counted (change (kindIn k) (counted k)) ≡ change (kindIn k) (counted k))
-kept k change same keeps =
-    counts-as (kindIn k) (change (kindIn k) (counted k)) (ap kindOf same ∙ by-kind (kindOf (k .code)) k refl .1) (keeps (counted-fits k))
+-- a record with the same code that passes the same test is of the same kind, and counts as itself
+kept : (k q : LoopRecord) → q .code ≡ counted k .code → fits (kindIn k) q ≡ true → (kindIn q ≡ kindIn k) × (counted q ≡ q)
+kept = counting.kept (λ (k : LoopRecord). k .code) kindOf fits In idle refl refl
 
 pub heard-small : (s : ℤ) → natAbs (heard s) ≤ 1000000
 heard-small s = grind (arith, tells, ints)
@@ -162,11 +142,11 @@ same-ports q k e = (ap portsOf e, λ i. ap (λ (t : Kind). lateOf t i) e)
 
 -- the next record is of the same kind, and counts as itself
 pub next-kept : (k : LoopRecord) (x : Inputs ℤ) → (kindIn (next k x) ≡ kindIn k) × (counted (next k x) ≡ next k x)
-next-kept k x = kept k (λ t q. nextOf t q (heardAll x)) (next-code (kindIn k) (counted k) (heardAll x)) (next-fits (kindIn k) (counted k) x)
+next-kept k x = kept k (next k x) (next-code (kindIn k) (counted k) (heardAll x)) (next-fits (kindIn k) (counted k) x (counted-fits k))
 
 pub kind-law : Kind-law ports late next fed unfit tuned
 kind-law = record {
   next-same = λ k x. same-ports (next k x) k (next-kept k x .0);
-  fed-same = λ k n. same-ports (fed k n) k (kept k (λ t q. fedOf t q n) (fed-code (kindIn k) (counted k) n) (fed-fits (kindIn k) (counted k) n) .0);
-  tuned-same = λ k x none. same-ports (tuned k x) k (kept k (λ t q. retuned q x) refl (tuned-fits (kindIn k) (counted k) x none) .0);
+  fed-same = λ k n. same-ports (fed k n) k (kept k (fed k n) (fed-code (kindIn k) (counted k) n) (fed-fits (kindIn k) (counted k) n (counted-fits k)) .0);
+  tuned-same = λ k x none. same-ports (tuned k x) k (kept k (tuned k x) refl (tuned-fits (kindIn k) (counted k) x none (counted-fits k)) .0);
 }

@@ -3,9 +3,8 @@ use mathlib.Core.Bool.{Bool, cond, not, _&&_}
 use Prim.Native.Nat.{ℕ}
 use lib.IntN.{ℤ, pos}
 use Rattle.std.specs.Options.{isSome}
-use Rattle.std.specs.declared.option.Option.{Option}
-use Rattle.std.specs.declared.option.Option.the-variants.{None, Some}
 use Rattle.family.specs.declared.values.Inputs.{Inputs}
+use Rattle.family.specs.Counts.{kindFor, recordFor}
 use Rattle.family.specs.Params.{within}
 use Rattle.loop_blocks.specs.declared.record.Kind.{Kind}
 use Rattle.loop_blocks.specs.declared.record.Kind.the-variants.{In, Pid, Pidt, Lim, Root, Lag, Hold, Low, High, Sum, Gain}
@@ -39,23 +38,13 @@ fits t k = not (isSome (badOf t (k .params))) && statesFit (limitsOf t) k
 abbrev pub idle : LoopRecord
 idle = record { code = 1; params = record { p = pos 0; q = pos 0; r = pos 0 }; u = pos 0; v = pos 0; w = pos 0; z = pos 0 }
 
--- the kind that a record counts as, where its code is that of the kind given
-abbrev pub kindFor : Option Kind → LoopRecord → Kind
-kindFor None k = In
-kindFor (Some t) k = cond (fits t k) t In
-
--- the record as it counts, where its code is that of the kind given
-abbrev pub recordFor : Option Kind → LoopRecord → LoopRecord
-recordFor None k = idle
-recordFor (Some t) k = cond (fits t k) k idle
-
 -- the kind that a record counts as
 abbrev pub kindIn : LoopRecord → Kind
-kindIn k = kindFor (kindOf (k .code)) k
+kindIn k = kindFor fits In idle (kindOf (k .code)) k
 
 -- the record as it counts
 abbrev pub counted : LoopRecord → LoopRecord
-counted k = recordFor (kindOf (k .code)) k
+counted k = recordFor fits In idle (kindOf (k .code)) k
 
 -- a signal as it counts: one out of range is at rest
 abbrev pub heard : ℤ → ℤ

@@ -10,7 +10,7 @@ use Rattle.std.specs.shelf.Text.{sameBytes}
 use Rattle.std.specs.declared.option.Option.{Option}
 use Rattle.std.specs.declared.option.Option.the-variants.{None, Some}
 use Rattle.family.specs.declared.values.Params.{Params}
-use Rattle.family.specs.Params.{within, among, firstBad}
+use Rattle.family.specs.Params.{within, among, firstBad, badBut}
 use Rattle.loop_blocks.specs.declared.record.Kind.{Kind}
 use Rattle.loop_blocks.specs.declared.record.Kind.the-variants.{In, Pid, Pidt, Lim, Root, Lag, Hold, Low, High, Sum, Gain}
 
@@ -55,10 +55,6 @@ lateOf Low i = false
 lateOf High i = false
 lateOf Sum i = false
 lateOf Gain i = false
-
--- the first bad parameter, where p has to pass a test and q and r have to be 0
-abbrev pub badBut : Bool → Params → Option ℕ
-badBut p x = firstBad p (within (x .q) 0) (within (x .r) 0)
 
 -- the first bad parameter of a controller: three gains
 abbrev pub badGains : Params → Option ℕ

@@ -1,9 +1,10 @@
 // The kinds by code and word, and what each asks of its parameters.
 ghost use mathlib.Core.Path.{_≡_};
-ghost use Rattle.loop_blocks.specs.Kinds.{kindOf, codeOf, portsOf, lateOf, badBut, badGains, badLimits, badOf};
+ghost use Rattle.loop_blocks.specs.Kinds.{kindOf, codeOf, portsOf, lateOf, badGains, badLimits, badOf};
 ghost use Rattle.loop_blocks.specs.Loops.{badFor, startOf, takesOf};
 use crate::record::Kind;
 use family::Params;
+use family::bad_but;
 use family::first_bad;
 use family::is_among;
 use family::is_within;
@@ -136,13 +137,6 @@ pub(crate) fn start_for(code: u8, x: Params) -> i32
         Some(Kind::In) | Some(Kind::Hold) => x.p,
         _ => 0,
     }
-}
-
-// The first bad parameter, where q and r have to be 0.
-fn bad_but(p: bool, x: Params) -> Option<u8>
-    ensures { λ n. ⌜ n ≡ badBut p x ⌝ }
-{
-    first_bad(p, is_within(x.q, 0), is_within(x.r, 0))
 }
 
 // The first bad parameter of a controller.
