@@ -1,0 +1,2 @@
+mod Lateness
+mod Kept
