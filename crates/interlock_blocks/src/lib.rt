@@ -19,7 +19,8 @@ use kinds::code_of;
 use kinds::kind_of;
 use kinds::start_for;
 pub use record::InterlockRecord;
-pub use record::Kind;
+pub use record::InterlockRecordDebug;
+pub use record::InterlockRecordPartialEq;
 
 // The interlocks. A signal is true or false; false is the signal at rest.
 pub struct Interlocks;

@@ -13,8 +13,8 @@ pub struct InterlockRecord {
 }
 
 // The kinds of interlock blocks.
-#[derive(Clone, Copy, PartialEq, Eq, Debug, Drop)]
-pub enum Kind {
+#[derive(Clone, Copy, Drop)]
+pub(crate) enum Kind {
     In,
     And,
     Or,

@@ -23,8 +23,9 @@ use kinds::bad_for;
 use kinds::code_of;
 use kinds::kind_of;
 use kinds::start_for;
-pub use record::Kind;
 pub use record::LoopRecord;
+pub use record::LoopRecordDebug;
+pub use record::LoopRecordPartialEq;
 
 // The loops. A signal is a whole number from −1,000,000 to 1,000,000; 0 is the signal at rest.
 pub struct Loops;

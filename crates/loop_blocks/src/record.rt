@@ -16,8 +16,8 @@ pub struct LoopRecord {
 }
 
 // The kinds of loop blocks.
-#[derive(Clone, Copy, PartialEq, Eq, Debug, Drop)]
-pub enum Kind {
+#[derive(Clone, Copy, Drop)]
+pub(crate) enum Kind {
     In,
     Pid,
     Pidt,

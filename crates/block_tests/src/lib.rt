@@ -1,0 +1,5 @@
+// Both families on examples worked out by hand.
+#[cfg(test)]
+mod interlocks;
+#[cfg(test)]
+mod loops;
