@@ -21,9 +21,9 @@ use Rattle.loop_blocks.specs.declared.record.LoopRecord.{LoopRecord}
 use Rattle.loop_blocks.specs.Whole.{span, wide, thousandth}
 use Rattle.loop_blocks.specs.Pid.{movedOf, sumOf, shifted}
 use Rattle.loop_blocks.specs.Lag.{lagNext}
-use Rattle.loop_blocks.specs.Kinds.{kindOf, portsOf, lateOf, badOf}
+use Rattle.loop_blocks.specs.Kinds.{kindOf, portsOf, lateOf, takesOf, badOf}
 use Rattle.loop_blocks.specs.Counts.{limitsOf, statesFit, fits, idle, kindIn, counted, heard, heardAll}
-use Rattle.loop_blocks.specs.Loops.{ports, late, next, fed, unfit, tuned, nextOf, takesOf, fedOf, retuned, withU}
+use Rattle.loop_blocks.specs.Loops.{ports, late, next, fed, unfit, tuned, nextOf, fedOf, retuned, withU}
 use Rattle.loop_blocks.specs.Ranges.{PidRanges, LagRanges}
 use Rattle.loop_blocks.proofs.Lagging.{stays}
 

@@ -56,6 +56,20 @@ lateOf High i = false
 lateOf Sum i = false
 lateOf Gain i = false
 
+-- whether a kind takes feeds
+abbrev pub takesOf : Kind → Bool
+takesOf In = true
+takesOf Pid = false
+takesOf Pidt = false
+takesOf Lim = false
+takesOf Root = false
+takesOf Lag = false
+takesOf Hold = false
+takesOf Low = false
+takesOf High = false
+takesOf Sum = false
+takesOf Gain = false
+
 -- the first bad parameter of a controller: three gains
 abbrev pub badGains : Params → Option ℕ
 badGains x = firstBad (within (x .p) 100000) (within (x .q) 100000) (within (x .r) 100000)

@@ -1,8 +1,6 @@
 -- What loop blocks do, kind by kind, and the meaning of the family.
-use mathlib.Core.Bool.{Bool, true, false, cond}
-use mathlib.Core.Path.{_≡_}
-use mathlib.Core.Logic.{_⊎_}
-use Prim.Native.Nat.{ℕ, zero, suc, _≤_}
+use mathlib.Core.Bool.{Bool, cond}
+use Prim.Native.Nat.{ℕ}
 use lib.IntN.{ℤ, pos, _+ℤ_, _-ℤ_, _*ℤ_}
 use Rattle.std.specs.Numbers.{minZ, maxZ}
 use Rattle.std.specs.Options.{isSome}
@@ -17,8 +15,8 @@ use Rattle.loop_blocks.specs.Whole.{limit, span, thousandth}
 use Rattle.loop_blocks.specs.Root.{rootOut}
 use Rattle.loop_blocks.specs.Pid.{pidOut, pidNext, pidtNext}
 use Rattle.loop_blocks.specs.Lag.{lagNext}
-use Rattle.loop_blocks.specs.Kinds.{kindOf, portsOf, lateOf, badOf}
-use Rattle.loop_blocks.specs.Counts.{kindIn, counted, heard, heardAll}
+use Rattle.loop_blocks.specs.Kinds.{kindOf, portsOf, lateOf, takesOf, badOf}
+use Rattle.loop_blocks.specs.Counts.{kindIn, counted, heardAll}
 
 -- the output of a block of a kind
 abbrev pub outputOf : Kind → LoopRecord → Inputs ℤ → ℤ
@@ -71,20 +69,6 @@ startOf (Some High) x = pos 0
 startOf (Some Sum) x = pos 0
 startOf (Some Gain) x = pos 0
 
--- whether a block of a kind takes feeds
-abbrev pub takesOf : Kind → Bool
-takesOf In = true
-takesOf Pid = false
-takesOf Pidt = false
-takesOf Lim = false
-takesOf Root = false
-takesOf Lag = false
-takesOf Hold = false
-takesOf Low = false
-takesOf High = false
-takesOf Sum = false
-takesOf Gain = false
-
 -- the record after a feed: a kind that takes none keeps its own
 abbrev pub fedOf : Kind → LoopRecord → ℤ → LoopRecord
 fedOf t k n = cond (takesOf t) (withU k (span n)) k
@@ -94,42 +78,48 @@ abbrev pub badFor : Option Kind → Params → Option ℕ
 badFor None x = None
 badFor (Some t) x = badOf t x
 
--- the family's meaning, for every record and every signal
+-- The family's meaning, for every record and every signal.
+
+-- whether there is a kind of this code
 abbrev pub exists : ℕ → Bool
 exists n = isSome (kindOf n)
 
+-- the first parameter that a kind does not accept
 abbrev pub bad : ℕ → Params → Option ℕ
 bad n x = badFor (kindOf n) x
 
+-- the record of a new block
 abbrev pub fresh : ℕ → Params → LoopRecord
 fresh n x = record { code = n; params = x; u = startOf (kindOf n) x; v = pos 0; w = pos 0; z = pos 0 }
 
+-- how many ports a block has
 abbrev pub ports : LoopRecord → ℕ
 ports k = portsOf (kindIn k)
 
+-- whether a port is late
 abbrev pub late : LoopRecord → ℕ → Bool
 late k i = lateOf (kindIn k) i
 
+-- whether a block takes feeds
 abbrev pub takes : LoopRecord → Bool
 takes k = takesOf (kindIn k)
 
+-- the record after a feed
 abbrev pub fed : LoopRecord → ℤ → LoopRecord
 fed k n = fedOf (kindIn k) (counted k) n
 
+-- the first parameter that a block does not accept in a tune
 abbrev pub unfit : LoopRecord → Params → Option ℕ
 unfit k x = badOf (kindIn k) x
 
+-- the record after a tune
 abbrev pub tuned : LoopRecord → Params → LoopRecord
 tuned k x = retuned (counted k) x
 
+-- what a block puts out
 abbrev pub output : LoopRecord → Inputs ℤ → ℤ
 output k x = outputOf (kindIn k) (counted k) (heardAll x)
 
+-- the record after the scan
 abbrev pub next : LoopRecord → Inputs ℤ → LoopRecord
 next k x = nextOf (kindIn k) (counted k) (heardAll x)
-
-abbrev pub number : ℤ → ℤ
-number s = heard s
-
-abbrev pub rest : ℤ
-rest = pos 0

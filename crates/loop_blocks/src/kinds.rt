@@ -1,7 +1,7 @@
 // The kinds by code and word, and what each asks of its parameters.
 ghost use mathlib.Core.Path.{_≡_};
-ghost use Rattle.loop_blocks.specs.Kinds.{kindOf, codeOf, portsOf, lateOf, badGains, badLimits, badOf};
-ghost use Rattle.loop_blocks.specs.Loops.{badFor, startOf, takesOf};
+ghost use Rattle.loop_blocks.specs.Kinds.{kindOf, codeOf, portsOf, lateOf, takesOf, badGains, badLimits, badOf};
+ghost use Rattle.loop_blocks.specs.Loops.{badFor, startOf};
 use crate::record::Kind;
 use family::Params;
 use family::bad_but;

@@ -1,7 +1,9 @@
 // The family of loop blocks: whole numbers.
 ghost use mathlib.Core.Path.{_≡_};
+ghost use lib.IntN.{pos};
 ghost use Rattle.loop_blocks.specs.Kinds.{codeOf};
-ghost use Rattle.loop_blocks.specs.Loops.{exists as isKind, bad as badOf, fresh as freshOf, ports as portsOf, late as lateOf, takes as takesOf, fed as fedOf, unfit as unfitOf, tuned as tunedOf, output as outputOf, next as nextOf, number as numberOf, rest as restOf};
+ghost use Rattle.loop_blocks.specs.Counts.{heard};
+ghost use Rattle.loop_blocks.specs.Loops.{exists as isKind, bad as badOf, fresh as freshOf, ports as portsOf, late as lateOf, takes as takesOf, fed as fedOf, unfit as unfitOf, tuned as tunedOf, output as outputOf, next as nextOf};
 ghost use Rattle.loop_blocks.specs.Steady.{Lag-settles, Root-exact};
 
 mod blocks;
@@ -59,9 +61,9 @@ pub impl Family for Loops as LoopFamily {
 
     ghost next = { nextOf };
 
-    ghost number = { numberOf };
+    ghost number = { heard };
 
-    ghost rest = { restOf };
+    ghost rest = { pos 0 };
 
     fn word(text: &[u8]) -> Option<u8> {
         code_of(text)
