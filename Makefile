@@ -2,8 +2,9 @@
 .PHONY: run test
 
 run:
-	rt check kiln
-	target/bin/kiln
+	@mkdir -p target
+	@rt check kiln > target/run.log 2>&1 || { cat target/run.log; exit 1; }
+	@target/bin/kiln
 
 test:
 	rt ci

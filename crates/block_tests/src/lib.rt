@@ -1,4 +1,4 @@
-// Both families on examples worked out by hand.
+//! Both families on examples worked out by hand.
 #[cfg(test)]
 mod interlocks;
 #[cfg(test)]

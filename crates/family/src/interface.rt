@@ -1,4 +1,4 @@
-// A family of blocks, by what its records and signals mean.
+//! A family of blocks, by what its records and signals mean.
 ghost use mathlib.Core.Path.{_≡_};
 ghost use mathlib.Core.Bool.{Bool};
 ghost use mathlib.Core.List.{List};

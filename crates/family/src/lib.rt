@@ -1,4 +1,4 @@
-// The interface of block families: what a diagram asks of a family of blocks, and what families share.
+//! The interface of block families: what a diagram asks of a family of blocks, and what families share.
 mod checks;
 mod interface;
 mod values;

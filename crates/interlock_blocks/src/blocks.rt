@@ -1,4 +1,4 @@
-// What a block does, one function to a kind.
+//! What a block does, one function to a kind.
 ghost use mathlib.Core.Path.{_≡_};
 ghost use mathlib.Core.Bool.{cond, not, _&&_, _||_};
 ghost use lib.IntN.{pos, _+ℤ_};

@@ -1,4 +1,4 @@
-// The kinds by code and word, and what each asks of its parameters.
+//! The kinds by code and word, and what each asks of its parameters.
 ghost use mathlib.Core.Path.{_≡_};
 ghost use Rattle.interlock_blocks.specs.Kinds.{kindOf, codeOf, portsOf, lateOf, takesOf, badOf};
 ghost use Rattle.interlock_blocks.specs.Interlocks.{badFor, startOf};

@@ -1,4 +1,4 @@
-// The family of interlock blocks: true and false.
+//! The family of interlock blocks: true and false.
 ghost use mathlib.Core.Path.{_≡_};
 ghost use mathlib.Core.Bool.{false};
 ghost use Rattle.interlock_blocks.specs.Kinds.{codeOf};
@@ -22,7 +22,7 @@ pub use record::InterlockRecord;
 pub use record::InterlockRecordDebug;
 pub use record::InterlockRecordPartialEq;
 
-// The interlocks. A signal is true or false; false is the signal at rest.
+/// The interlocks. A signal is true or false; false is the signal at rest.
 pub struct Interlocks;
 
 pub impl Family for Interlocks as InterlockFamily {

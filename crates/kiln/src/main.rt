@@ -1,4 +1,4 @@
-// A kiln that is brought to its set point, printed scan by scan.
+//! A kiln that is brought to its set point, printed scan by scan.
 mod plant;
 
 use family::Family;

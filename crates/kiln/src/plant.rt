@@ -1,4 +1,4 @@
-// A closed loop and an interlock, stepped through their families' functions.
+//! A closed loop and an interlock, stepped through their families' functions.
 ghost use mathlib.Core.Path.{_≡_};
 ghost use lib.Signed.{leZ};
 ghost use Rattle.interlock_blocks.specs.Interlocks.{bit, fed};
@@ -12,7 +12,7 @@ use loop_blocks::LoopFamily;
 use loop_blocks::LoopRecord;
 use loop_blocks::Loops;
 
-// The loop: a set point, a controller that tracks the valve, the limiter before the valve, and the kiln as a lag.
+/// The loop: a set point, a controller that tracks the valve, the limiter before the valve, and the kiln as a lag.
 #[derive(Clone, Copy, Drop)]
 pub struct Heating {
     pub set: LoopRecord,
@@ -21,7 +21,7 @@ pub struct Heating {
     pub kiln: LoopRecord,
 }
 
-// The signals of one scan of the loop.
+/// The signals of one scan of the loop.
 #[derive(Clone, Copy, Drop)]
 pub struct Readings {
     pub set: i32,
@@ -30,7 +30,7 @@ pub struct Readings {
     pub valve: i32,
 }
 
-// The interlock: a switch, and a timer that lights the lamp once the switch has been on for a while.
+/// The interlock: a switch, and a timer that lights the lamp once the switch has been on for a while.
 #[derive(Clone, Copy, Drop)]
 pub struct Lamp {
     pub switch: InterlockRecord,
@@ -56,7 +56,7 @@ fn one(a: bool) -> Inputs<bool>
 }
 
 impl Heating {
-    // The signals, each from those before it.
+    /// The signals, each from those before it.
     pub fn solved(self) -> Readings
         ensures { λ r. ⌜ Solved self r ⌝ }
     {
@@ -72,7 +72,7 @@ impl Heating {
         }
     }
 
-    // The records after the scan.
+    /// The records after the scan.
     pub fn settled(self, r: Readings) -> Heating
         ensures { λ e. ⌜ Settled self r e ⌝ }
     {
@@ -86,14 +86,14 @@ impl Heating {
 }
 
 impl Lamp {
-    // Whether the lamp is on.
+    /// Whether the lamp is on.
     pub fn is_lit(self) -> bool
         ensures { λ b. ⌜ b ≡ lit self ⌝ }
     {
         Interlocks::output(self.timer, one(Interlocks::output(self.switch, one(false))))
     }
 
-    // The records after the scan: the switch is on while the reading is at or above the level.
+    /// The records after the scan: the switch is on while the reading is at or above the level.
     pub fn settled(self, level: i32, reading: i32) -> Lamp
         ensures { λ e. ⌜ Moved self level reading e ⌝ }
     {

@@ -1,4 +1,4 @@
-// What a block does, one function to a kind.
+//! What a block does, one function to a kind.
 ghost use mathlib.Core.Path.{_≡_};
 ghost use Rattle.loop_blocks.specs.Loops.{outputOf, nextOf, withU, fedOf, retuned};
 ghost use Rattle.loop_blocks.specs.Ranges.{Ranges, SignalRanges};

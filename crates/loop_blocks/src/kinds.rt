@@ -1,4 +1,4 @@
-// The kinds by code and word, and what each asks of its parameters.
+//! The kinds by code and word, and what each asks of its parameters.
 ghost use mathlib.Core.Path.{_≡_};
 ghost use Rattle.loop_blocks.specs.Kinds.{kindOf, codeOf, portsOf, lateOf, takesOf, badGains, badLimits, badOf};
 ghost use Rattle.loop_blocks.specs.Loops.{badFor, startOf};

@@ -1,4 +1,4 @@
-// The blocks without a state of their own.
+//! The blocks without a state of their own.
 ghost use mathlib.Core.Path.{_≡_};
 ghost use Prim.Native.Nat.{_≤_};
 ghost use lib.IntN.{natAbs, _+ℤ_, _-ℤ_, _*ℤ_};

@@ -1,4 +1,4 @@
-// The family of loop blocks: whole numbers.
+//! The family of loop blocks: whole numbers.
 ghost use mathlib.Core.Path.{_≡_};
 ghost use lib.IntN.{pos};
 ghost use Rattle.loop_blocks.specs.Kinds.{codeOf};
@@ -29,7 +29,7 @@ pub use record::LoopRecord;
 pub use record::LoopRecordDebug;
 pub use record::LoopRecordPartialEq;
 
-// The loops. A signal is a whole number from −1,000,000 to 1,000,000; 0 is the signal at rest.
+/// The loops. A signal is a whole number from −1,000,000 to 1,000,000; 0 is the signal at rest.
 pub struct Loops;
 
 pub impl Family for Loops as LoopFamily {
@@ -134,7 +134,7 @@ pub impl Family for Loops as LoopFamily {
     }
 }
 
-// How many scans of a steady input bring a lag's output to its input or one unit below it, for good.
+/// How many scans of a steady input bring a lag's output to its input or one unit below it, for good.
 pub fn lag_scans() -> u32
     ensures value { λ n. ⌜ n ≡ 2000000000 ⌝ }
     ensures settled { λ n. ⌜ Lag-settles n ⌝ }

@@ -1,4 +1,4 @@
-// The controllers, in velocity form.
+//! The controllers, in velocity form.
 ghost use mathlib.Core.Path.{_≡_};
 ghost use Prim.Native.Nat.{_≤_};
 ghost use lib.IntN.{pos, natAbs, _+ℤ_, _-ℤ_, _*ℤ_};

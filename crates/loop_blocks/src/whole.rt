@@ -1,4 +1,4 @@
-// Whole numbers, one operation to a function: each says its value and, where a caller needs it, its bound.
+//! Whole numbers, one operation to a function: each says its value and, where a caller needs it, its bound.
 ghost use mathlib.Core.Path.{_≡_};
 ghost use Prim.Native.Nat.{_≤_};
 ghost use lib.IntN.{pos, natAbs, _+ℤ_, _-ℤ_, _*ℤ_};

@@ -1,0 +1,4 @@
+mod Trues
+mod Fresh
+mod Taking
+mod Leaving

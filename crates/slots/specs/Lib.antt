@@ -1,0 +1,3 @@
+pub mod Ledger
+pub mod Tables
+pub mod View

@@ -1,0 +1,10 @@
+pub mod Layout
+pub mod Change
+pub mod Reach
+pub mod Ring
+pub mod Order
+pub mod Faults
+pub mod Lawful
+pub mod Pass
+pub mod Sound
+pub mod View
