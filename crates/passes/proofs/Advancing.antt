@@ -16,7 +16,7 @@ use Rattle.std.proofs.shelf.Tests.{cases-eq, cond-true, cond-false, eq-eqb, ne-
 use Rattle.family.specs.Meaning.{Meaning}
 use Rattle.wiring.specs.Layout.{Layout, member, isPlaced}
 use Rattle.passes.specs.Rows.{put, onSome, row}
-use Rattle.passes.specs.Scan.{inputsAt, advanced, Settles}
+use Rattle.passes.specs.Scan.{inputsOf, advanced, Settles}
 use Rattle.passes.proofs.Rows.{nth-put, put-same, put-other}
 
 -- the first i + 1 of a list have the one at i, and else those of the first i
@@ -42,12 +42,12 @@ not-before (x ∷ xs) (suc n) s h =
 module _ {R S : Type 0} (m : Meaning R S) (l : Layout) (signals : List S) (before : List R) where
   -- the next record of the block at s
   abbrev brought : ℕ → R → R
-  brought s r = m .next r (inputsAt m l (row m signals) s)
+  brought s r = m .next r (inputsOf m (row m signals) (l .source s))
 
   -- the row stands at `cur`, and the blocks of the ranks below i are done
   pub record Advancing (cur : List R) (i : ℕ) : Type 0 where
     pub size : length cur ≡ length before
-    pub records : (s : ℕ) → nth cur s ≡ advanced m l (row m signals) (member (take i (l .order))) (nth before) s
+    pub records : (s : ℕ) → nth cur s ≡ advanced m (l .source) (row m signals) (member (take i (l .order))) (nth before) s
 
   pub advance-none : Advancing before 0
   advance-none = record { size = refl; records = λ s. refl }
@@ -75,5 +75,5 @@ module _ {R S : Type 0} (m : Meaning R S) (l : Layout) (signals : List S) (befor
   pub advance-all : (cur : List R) (i : ℕ) → length (l .order) ≤ i → Advancing cur i → Settles m l signals before cur
   advance-all cur i high was = record {
     size = was .size;
-    records = λ s. was .records s ∙ ap (λ (xs : List ℕ). advanced m l (row m signals) (member xs) (nth before) s) (take-all i (l .order) high);
+    records = λ s. was .records s ∙ ap (λ (xs : List ℕ). advanced m (l .source) (row m signals) (member xs) (nth before) s) (take-all i (l .order) high);
   }

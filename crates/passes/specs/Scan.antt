@@ -21,29 +21,29 @@ module _ {R S : Type 0} (m : Meaning R S) where
   abbrev pub carried : (ℕ → S) → Option ℕ → S
   carried signals source = orElse (m .rest) (onSome signals source)
 
-  -- what the ports of the block at s carry
-  abbrev pub inputsAt : Layout → (ℕ → S) → ℕ → Inputs S
-  inputsAt l signals s = record { a = carried signals (l .source s 0); b = carried signals (l .source s 1); c = carried signals (l .source s 2) }
+  -- what a block's three ports carry, by the source of each
+  abbrev pub inputsOf : (ℕ → S) → (ℕ → Option ℕ) → Inputs S
+  inputsOf signals source = record { a = carried signals (source 0); b = carried signals (source 1); c = carried signals (source 2) }
 
   -- the output of the block at s, where it has a record
-  abbrev pub outputAt : Layout → (ℕ → Option R) → (ℕ → S) → ℕ → S
-  outputAt l records signals s = orElse (signals s) (onSome (λ r. m .output r (inputsAt l signals s)) (records s))
+  abbrev pub outputAt : (ℕ → ℕ → Option ℕ) → (ℕ → Option R) → (ℕ → S) → ℕ → S
+  outputAt source records signals s = orElse (signals s) (onSome (λ r. m .output r (inputsOf signals (source s))) (records s))
 
   -- the signals after some blocks, one after another, were set to their outputs on the signals that stood then
-  abbrev pub swept : Layout → (ℕ → Option R) → List ℕ → (ℕ → S) → ℕ → S
-  swept l records [] signals = signals
-  swept l records (s ∷ ss) signals = swept l records ss (put signals s (outputAt l records signals s))
+  abbrev pub swept : (ℕ → ℕ → Option ℕ) → (ℕ → Option R) → List ℕ → (ℕ → S) → ℕ → S
+  swept source records [] signals = signals
+  swept source records (s ∷ ss) signals = swept source records ss (put signals s (outputAt source records signals s))
 
-  -- the records after those of the blocks in a list became their next ones
-  abbrev pub advanced : Layout → (ℕ → S) → (ℕ → Bool) → (ℕ → Option R) → ℕ → Option R
-  advanced l signals due records s = cond (due s) (onSome (λ r. m .next r (inputsAt l signals s)) (records s)) (records s)
+  -- the records after those of some blocks became their next ones
+  abbrev pub advanced : (ℕ → ℕ → Option ℕ) → (ℕ → S) → (ℕ → Bool) → (ℕ → Option R) → ℕ → Option R
+  advanced source signals some records s = cond (some s) (onSome (λ r. m .next r (inputsOf signals (source s))) (records s)) (records s)
 
   -- a solve: the signal row by rank, and nothing else
   pub record Solves (l : Layout) (records : List R) (before after : List S) : Type 0 where
     pub size : length after ≡ length before
-    pub signals : (s : ℕ) → row m after s ≡ swept l (nth records) (l .order) (row m before) s
+    pub signals : (s : ℕ) → row m after s ≡ swept (l .source) (nth records) (l .order) (row m before) s
 
   -- a settle: every placed block's record, and nothing else
   pub record Settles (l : Layout) (signals : List S) (before after : List R) : Type 0 where
     pub size : length after ≡ length before
-    pub records : (s : ℕ) → nth after s ≡ advanced l (row m signals) (isPlaced l) (nth before) s
+    pub records : (s : ℕ) → nth after s ≡ advanced (l .source) (row m signals) (isPlaced l) (nth before) s

@@ -7,7 +7,7 @@ ghost use Rattle.std.specs.declared.option.Option.the-variants.{None};
 ghost use Rattle.family.specs.Meaning.{meaning};
 ghost use Rattle.wiring.specs.View.{layout};
 ghost use Rattle.passes.specs.Rows.{row};
-ghost use Rattle.passes.specs.Scan.{long, carried, inputsAt, Solves, Settles};
+ghost use Rattle.passes.specs.Scan.{long, carried, inputsOf, Solves, Settles};
 use family::Family;
 use family::Inputs;
 use wiring::Block;
@@ -27,7 +27,7 @@ fn carried_from<F: Family>(signals: &[F::Signal], source: Option<u8>) -> F::Sign
 // What the ports of the block at a slot carry.
 fn inputs_at<F: Family>(wiring: &Wiring, signals: &[F::Signal], slot: u8) -> Inputs<F::Signal>
     requires { ⌜ 256 ≤ length (now signals) ⌝ }
-    ensures { λ x. ⌜ x ≡ inputsAt (meaning F·Family) (layout (now (wiring .entry))) (row (meaning F·Family) (now (signals .entry))) slot ⌝ }
+    ensures { λ x. ⌜ x ≡ inputsOf (meaning F·Family) (row (meaning F·Family) (now (signals .entry))) (layout (now (wiring .entry)) .source slot) ⌝ }
 {
     let block = wiring.block(slot);
     Inputs {
@@ -81,7 +81,7 @@ fn output_at<F: Family>(
     block: F::Record,
 ) -> F::Signal
     requires { ⌜ 256 ≤ length (now signals) ⌝ }
-    ensures { λ s. ⌜ s ≡ meaning F·Family .output block (inputsAt (meaning F·Family) (layout (now (wiring .entry))) (row (meaning F·Family) (now (signals .entry))) slot) ⌝ }
+    ensures { λ s. ⌜ s ≡ meaning F·Family .output block (inputsOf (meaning F·Family) (row (meaning F·Family) (now (signals .entry))) (layout (now (wiring .entry)) .source slot)) ⌝ }
 {
     F::output(block, inputs_at::<F>(wiring, signals, slot))
 }
@@ -121,7 +121,7 @@ fn next_at<F: Family>(
     block: F::Record,
 ) -> F::Record
     requires { ⌜ 256 ≤ length (now signals) ⌝ }
-    ensures { λ q. ⌜ q ≡ meaning F·Family .next block (inputsAt (meaning F·Family) (layout (now (wiring .entry))) (row (meaning F·Family) (now (signals .entry))) slot) ⌝ }
+    ensures { λ q. ⌜ q ≡ meaning F·Family .next block (inputsOf (meaning F·Family) (row (meaning F·Family) (now (signals .entry))) (layout (now (wiring .entry)) .source slot)) ⌝ }
 {
     F::next(block, inputs_at::<F>(wiring, signals, slot))
 }
