@@ -1,6 +1,5 @@
 -- What a record counts as: itself, where its code, each parameter and each state are within their rules, else a fresh `in` of p 0.
 use mathlib.Core.Bool.{Bool, cond, not, _&&_}
-use Prim.Native.Nat.{ℕ}
 use lib.IntN.{ℤ, pos}
 use Rattle.std.specs.Options.{isSome}
 use Rattle.family.specs.declared.values.Inputs.{Inputs}

@@ -1,7 +1,7 @@
 //! Whole numbers, one operation to a function: each says its value and, where a caller needs it, its bound.
 ghost use mathlib.Core.Path.{_≡_};
 ghost use Prim.Native.Nat.{_≤_};
-ghost use lib.IntN.{pos, natAbs, _+ℤ_, _-ℤ_, _*ℤ_};
+ghost use lib.IntN.{natAbs, _+ℤ_, _-ℤ_, _*ℤ_};
 ghost use Rattle.loop_blocks.specs.Whole.{span, wide, thousandth};
 
 // Limited to what a signal can be.

@@ -8,14 +8,13 @@ use native.Mathlib.Numerals.{add-one}
 use native.Mathlib.Omega.{arith}
 use lib.Dec.{eqb}
 use lib.ListN.{length, getD, set, take, length-set}
-use Rattle.std.specs.declared.option.Option.{Option}
-use Rattle.std.specs.declared.option.Option.the-variants.{Some, None}
+use Rattle.std.specs.declared.option.Option.the-variants.{Some}
 use Rattle.std.specs.shelf.Maps.{nth}
 use Rattle.std.proofs.shelf.Lists.{take-all}
 use Rattle.std.proofs.shelf.Tests.{cases-eq, cond-true, cond-false, eq-eqb, ne-eqb, or-right, or-from}
 use Rattle.family.specs.Meaning.{Meaning}
-use Rattle.wiring.specs.Layout.{Layout, member, isPlaced}
-use Rattle.passes.specs.Rows.{put, onSome, row}
+use Rattle.wiring.specs.Layout.{Layout, member}
+use Rattle.passes.specs.Rows.{onSome, row}
 use Rattle.passes.specs.Scan.{inputsOf, advanced, Settles}
 use Rattle.passes.proofs.Rows.{nth-put, put-same, put-other}
 

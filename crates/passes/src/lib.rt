@@ -1,8 +1,8 @@
 //! The two halves of a scan, for any family: signals worked out by rank, and records brought on.
 ghost use mathlib.Core.Path.{_≡_};
 ghost use mathlib.Core.Bool.{true, false};
-ghost use Prim.Native.Nat.{ℕ, _<_, _≤_};
-ghost use lib.ListN.{length, getD};
+ghost use Prim.Native.Nat.{_<_, _≤_};
+ghost use lib.ListN.{length};
 ghost use Rattle.std.specs.declared.option.Option.the-variants.{None};
 ghost use Rattle.family.specs.Meaning.{meaning};
 ghost use Rattle.wiring.specs.View.{layout};

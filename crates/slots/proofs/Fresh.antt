@@ -1,13 +1,13 @@
 -- The tables before any slot is used.
 use mathlib.Core.Path.{_≡_, refl}
-use mathlib.Core.Bool.{Bool, false}
-use Prim.Native.Nat.{ℕ, zero, suc, _<_, _≤_}
+use mathlib.Core.Bool.{false}
+use Prim.Native.Nat.{ℕ, zero, suc}
 use native.Mathlib.Omega.{arith}
-use lib.ListN.{length, getD, replicate}
+use lib.ListN.{getD, replicate}
 use mathlib.Core.Logic.{inl, inr}
 use Rattle.std.proofs.shelf.Lists.{getD-replicate, getD-past, length-replicate}
 use Rattle.std.proofs.shelf.Tests.{cases-lt, both-ways}
-use Rattle.slots.specs.Tables.{trues, Unused, Untouched, Young}
+use Rattle.slots.specs.Tables.{trues, Young}
 
 -- every entry of a table of one value, within it and past it
 pub all-one : {A : Type 0} (n : ℕ) (a : A) (k : ℕ) → getD (replicate n a) k a ≡ a

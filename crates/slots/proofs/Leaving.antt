@@ -1,15 +1,15 @@
 -- A block taken out of its slot, and the slot put on the stack.
 use mathlib.Core.Path.{_≡_, refl, sym, ap, subst, _∙_}
-use mathlib.Core.Bool.{Bool, true, false, cond}
-use mathlib.Core.List.{List, [], _∷_}
+use mathlib.Core.Bool.{Bool, true, false}
+use mathlib.Core.List.{List, _∷_}
 use mathlib.Core.Logic.{inl, inr, _≢_}
-use Prim.Native.Nat.{ℕ, zero, suc, _+_, _-_, _<_, _≤_}
+use Prim.Native.Nat.{ℕ, zero, suc, _+_, _<_, _≤_}
 use native.Mathlib.Numerals.{add-one}
 use native.Mathlib.Omega.{arith}
 use lib.ListN.{length, getD, set}
 use Rattle.std.proofs.shelf.Lists.{getD-set-same, getD-set-other}
 use Rattle.std.proofs.shelf.Tests.{cases-eq, cases-lt, both-ways}
-use Rattle.slots.specs.Tables.{trues, stack, Idle, Old, Apart, Unused, Untouched, Young, Spare}
+use Rattle.slots.specs.Tables.{stack, Idle, Apart, Unused, Untouched, Young, Spare}
 
 -- a slot with a block has been used
 pub was-used : (placed : List Bool) (used s : ℕ) → Unused placed used → getD placed s false ≡ true → s < used

@@ -1,15 +1,15 @@
 -- A block put at an empty slot.
-use mathlib.Core.Path.{_≡_, refl, sym, ap, subst, _∙_}
+use mathlib.Core.Path.{_≡_, sym, ap, subst, _∙_}
 use mathlib.Core.Bool.{Bool, true, false, cond}
 use mathlib.Core.List.{List}
 use mathlib.Core.Logic.{inl, inr, _≢_}
-use Prim.Native.Nat.{ℕ, suc, _+_, _-_, _<_, _≤_}
+use Prim.Native.Nat.{ℕ, _-_, _<_, _≤_}
 use native.Mathlib.Omega.{arith}
 use lib.Dec.{eqb}
 use lib.ListN.{length, getD, set}
 use Rattle.std.proofs.shelf.Lists.{getD-set-same, getD-set-other}
-use Rattle.std.proofs.shelf.Tests.{cases-eq, cond-true, cond-false, eq-eqb, ne-eqb, both-ways}
-use Rattle.slots.specs.Tables.{trues, Idle, Old, Apart, Unused, Young, Spare}
+use Rattle.std.proofs.shelf.Tests.{cases-eq, cond-true, cond-false, eq-eqb, ne-eqb}
+use Rattle.slots.specs.Tables.{Idle, Apart, Unused, Young}
 
 -- what an entry is after a write, by the slot
 pub written : {A : Type 0} (xs : List A) (s : ℕ) (v d : A) → s < length xs → (t : ℕ) → getD (set xs s v) t d ≡ cond (eqb t s) v (getD xs t d)
