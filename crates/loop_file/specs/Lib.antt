@@ -1,0 +1,6 @@
+pub mod Orders
+pub mod Lines
+pub mod Verbs
+pub mod Ahead
+pub mod Files
+pub mod Closing
