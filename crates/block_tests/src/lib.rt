@@ -1,4 +1,5 @@
 //! Both families on examples worked out by hand.
+#![tactic(auto)]
 #[cfg(test)]
 mod interlocks;
 #[cfg(test)]

@@ -1,4 +1,5 @@
 //! What the two programs share: a file is checked and run, and its reply goes out.
+#![tactic(auto)]
 mod input;
 mod service;
 

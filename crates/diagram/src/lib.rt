@@ -1,4 +1,5 @@
 //! A block diagram over two rows that its caller lends, for any family.
+#![tactic(auto)]
 mod diagram;
 mod rows;
 mod token;

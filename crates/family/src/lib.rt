@@ -1,4 +1,6 @@
 //! The interface of block families: what a diagram asks of a family of blocks, and what families share.
+#![tactic(auto)]
+
 mod checks;
 mod interface;
 mod values;

@@ -1,4 +1,5 @@
 //! The family of interlock blocks: true and false.
+#![tactic(auto)]
 ghost use Rattle.std.specs.Prelude.{◌≡◌, false};
 ghost use Rattle.interlock_blocks.specs.Kinds.{code_of};
 ghost use Rattle.interlock_blocks.specs.Interlocks.{bit, exists as is_kind, bad as bad_of, fresh as fresh_of, ports as ports_of, late as late_of, takes as takes_of, fed as fed_of, unfit as unfit_of, tuned as tuned_of, output as output_of, next as next_of};

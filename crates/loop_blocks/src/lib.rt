@@ -1,4 +1,5 @@
 //! The family of loop blocks: whole numbers.
+#![tactic(auto)]
 ghost use Rattle.std.specs.Prelude.{◌≡◌, pos};
 ghost use Rattle.loop_blocks.specs.Kinds.{code_of};
 ghost use Rattle.loop_blocks.specs.Counts.{heard};

@@ -1,4 +1,5 @@
 //! Runs a file of loops: `loops < FILE`.
+#![tactic(auto)]
 use family::{Family, Params};
 use loop_blocks::Loops;
 use session::fresh_loops;

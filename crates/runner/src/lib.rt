@@ -1,4 +1,5 @@
 //! Runs of checked files on a diagram.
+#![tactic(auto)]
 mod lines;
 mod names;
 mod obey;

@@ -1,4 +1,5 @@
 //! Fresh diagrams, with the law that every session of calls on one keeps.
+#![tactic(auto)]
 ghost use Rattle.family.specs.Meaning.{meaning};
 ghost use Rattle.loop_blocks.specs.Loops.{loops};
 ghost use Rattle.interlock_blocks.specs.Interlocks.{interlocks};

@@ -1,5 +1,6 @@
 //! The wiring under a block diagram of 256 slots: which slots hold a block, in
 //! which order the blocks are run, and which block feeds each port.
+#![tactic(auto)]
 
 mod block;
 mod deal;
