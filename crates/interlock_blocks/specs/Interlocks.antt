@@ -1,5 +1,5 @@
 -- What interlock blocks do, kind by kind, and the meaning of the family.
-use Rattle.std.specs.Prelude.{ℕ, Bool, true, false, cond, not, ◌&&◌, ◌||◌, ℤ, pos, ◌+ℤ◌, is_some, Some, None, Option, int_le, int_lt}
+use Rattle.std.specs.Prelude.{ℕ, Bool, false, cond, not, ◌&&◌, ◌||◌, ℤ, pos, ◌+ℤ◌, is_some, Some, None, Option, int_le, int_lt}
 use Rattle.std.specs.Int.{int_min}
 use Rattle.family.specs.declared.values.Inputs.{Inputs}
 use Rattle.family.specs.declared.values.Params.{Params}

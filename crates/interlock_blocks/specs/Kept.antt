@@ -1,6 +1,6 @@
 -- A block keeps its kind, and so its ports: the next, the fed and the acceptably tuned record count as the same kind.
-use Rattle.std.specs.Prelude.{◌≡◌, ℕ, Bool, true, false, cond, not, ℤ, pos, ◌+ℤ◌, is_some, None, Option, refl}
-use Rattle.std.proofs.Common.{ap, arith}
+use Rattle.std.specs.Prelude.{◌≡◌, ℕ, ◌≤◌, Bool, true, false, cond, not, ℤ, pos, ◌+ℤ◌, is_some, None, Option, refl}
+use Rattle.std.proofs.Common.{ap, arith, rules}
 use Rattle.std.proofs.lemmas.Int.{ints}
 use Rattle.std.proofs.lemmas.Bool.Decides.{nat_tests}
 use Rattle.std.proofs.lemmas.Bool.{cond_both, and_parts, and_from}
@@ -78,6 +78,10 @@ tuned_fits t k x none h =
 -- records of one kind have the same ports
 same_ports : (q k : InterlockRecord) → kind_in q ≡ kind_in k → SamePorts ports late q k
 same_ports q k e = (ap ports_of e, λ i. ap (λ (t : Kind). late_of t i) e)
+
+-- a block has at most three ports
+pub at_most_three : (k : InterlockRecord) → ports k ≤ 3
+at_most_three k = search rules
 
 pub kind_law : KindLaw ports late next fed unfit tuned
 kind_law = record {

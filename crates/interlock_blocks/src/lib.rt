@@ -1,11 +1,11 @@
 //! The family of interlock blocks: true and false.
 #![tactic(auto)]
+
 ghost use Rattle.std.specs.Prelude.{◌≡◌, false};
 ghost use Rattle.interlock_blocks.specs.Kinds.{code_of};
 ghost use Rattle.interlock_blocks.specs.Interlocks.{bit, exists as is_kind, bad as bad_of, fresh as fresh_of, ports as ports_of, late as late_of, takes as takes_of, fed as fed_of, unfit as unfit_of, tuned as tuned_of, output as output_of, next as next_of};
-ghost use Rattle.interlock_blocks.specs.Kept.{kind_law as kinds_kept};
+ghost use Rattle.interlock_blocks.specs.Kept.{kind_law as kinds_kept, at_most_three};
 ghost use Rattle.interlock_blocks.specs.Lateness.{late_law};
-ghost use Rattle.std.proofs.Common.{rules};
 
 mod blocks;
 mod counted;
@@ -54,7 +54,7 @@ impl Family for Interlocks {
 
     ghost rest = { false };
 
-    ghost few = { Prim.search rules };
+    ghost few = { at_most_three };
 
     ghost lateness = { late_law };
 

@@ -1,6 +1,6 @@
 -- A block keeps its kind, and so its ports: the next, the fed and the acceptably tuned record count as the same kind.
 use Rattle.std.specs.Prelude.{◌≡◌, ℕ, ◌≤◌, true, not, ℤ, pos, ◌+ℤ◌, ◌-ℤ◌, ◌*ℤ◌, is_some, None, Option, unsigned_abs, refl}
-use Rattle.std.proofs.Common.{ap, arith}
+use Rattle.std.proofs.Common.{ap, arith, rules}
 use Rattle.std.proofs.lemmas.Int.{ints}
 use Rattle.std.proofs.lemmas.Bool.Decides.{nat_tests}
 use Rattle.std.proofs.lemmas.Bool.{cond_both, and_parts, and_from}
@@ -137,6 +137,10 @@ same_ports q k e = (ap ports_of e, λ i. ap (λ (t : Kind). late_of t i) e)
 -- the next record is of the same kind, and counts as itself
 pub next_kept : (k : LoopRecord) (x : Inputs ℤ) → (kind_in (next k x) ≡ kind_in k) × (counted (next k x) ≡ next k x)
 next_kept k x = kept k (next k x) (next_code (kind_in k) (counted k) (heard_all x)) (next_fits (kind_in k) (counted k) x (counted_fits k))
+
+-- a block has at most three ports
+pub at_most_three : (k : LoopRecord) → ports k ≤ 3
+at_most_three k = search rules
 
 pub kind_law : KindLaw ports late next fed unfit tuned
 kind_law = record {

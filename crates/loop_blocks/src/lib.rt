@@ -1,13 +1,13 @@
 //! The family of loop blocks: whole numbers.
 #![tactic(auto)]
+
 ghost use Rattle.std.specs.Prelude.{◌≡◌, pos};
 ghost use Rattle.loop_blocks.specs.Kinds.{code_of};
 ghost use Rattle.loop_blocks.specs.Counts.{heard};
 ghost use Rattle.loop_blocks.specs.Loops.{exists as is_kind, bad as bad_of, fresh as fresh_of, ports as ports_of, late as late_of, takes as takes_of, fed as fed_of, unfit as unfit_of, tuned as tuned_of, output as output_of, next as next_of};
 ghost use Rattle.loop_blocks.specs.Steady.{LagSettles, RootExact};
-ghost use Rattle.loop_blocks.specs.Kept.{kind_law as kinds_kept};
+ghost use Rattle.loop_blocks.specs.Kept.{kind_law as kinds_kept, at_most_three};
 ghost use Rattle.loop_blocks.specs.Lateness.{late_law};
-ghost use Rattle.std.proofs.Common.{rules};
 
 mod blocks;
 mod counted;
@@ -59,7 +59,7 @@ impl Family for Loops {
 
     ghost rest = { pos 0 };
 
-    ghost few = { Prim.search rules };
+    ghost few = { at_most_three };
 
     ghost lateness = { late_law };
 

@@ -9,8 +9,8 @@ bound c = small_product c.args.a c.args.b 1000000 2000000000 c.requires.0 c.requ
 fits : (c : goal.Start) → SFits w64 (c.args.a *ℤ c.args.b)
 fits c = small_fits (c.args.a *ℤ c.args.b) (omega (arith, bound c))
 
-pub overflow-mul-result : goal.overflow-mul-result
-overflow-mul-result c = simp (to_z-of_z, c.ranges.a, c.ranges.b, widened _ c.ranges.a, widened _ c.ranges.b) (fits c)
+pub overflow_mul-result : goal.overflow_mul-result
+overflow_mul-result c = simp (to_z-of_z, c.ranges.a, c.ranges.b, widened _ c.ranges.a, widened _ c.ranges.b) (fits c)
 
 pub returns : goal.returns
 returns c = record {
