@@ -1,5 +1,6 @@
 //! Both families on examples worked out by hand.
 #![tactic(auto)]
+
 #[cfg(test)]
 mod interlocks;
 #[cfg(test)]

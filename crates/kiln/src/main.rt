@@ -1,5 +1,6 @@
 //! A kiln that is brought to its set point, printed scan by scan.
 #![tactic(auto)]
+
 mod plant;
 
 use family::{Family, Params};
