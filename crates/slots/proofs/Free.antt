@@ -25,4 +25,4 @@ free_of_stack placed freed (suc n) used idle old unused span s e =
 
 -- it is empty, and one of the 256
 pub free_empty : (d : Slots) (s : ℕ) → free_of (ledger d).freed (ledger d).used ≡ Some s → ((ledger d).placed s ≡ false) × (s < 256)
-free_empty d = free_of_stack d.placed d.freed d.count d.used d.idle d.old d.unused d.span
+free_empty d = free_of_stack d.placed d.freed d.count d.used d.idle d.been_used d.unused d.span

@@ -1,5 +1,6 @@
 //! The slots of a diagram: which are taken, how often each was emptied, and which one the next block gets.
 #![tactic(auto)]
+
 mod slots;
 
 pub use slots::Slots;

@@ -16,7 +16,7 @@ pub struct Slots {
     ghost span: { used ≤ 256 },
     ghost tally: { trues placed + count ≤ used },
     ghost idle: { Idle placed freed count },
-    ghost old: { Old freed count used },
+    ghost been_used: { Old freed count used },
     ghost apart: { Apart freed count },
     ghost unused: { Unused placed used },
     ghost untouched: { Untouched emptied used },

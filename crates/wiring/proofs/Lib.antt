@@ -12,3 +12,4 @@ pub mod Rewire
 pub mod Passes
 pub mod Counts
 pub mod Orders
+pub mod Stays

@@ -1,7 +1,7 @@
 -- The order after a wire.
 use Rattle.std.specs.Prelude.{◌≡◌, ℕ, ◌+◌, ◌-◌, ◌≤◌, false, List, [], ◌∷◌, ◌++◌, take, drop, Some}
 use Rattle.wiring.specs.Change.{rewired}
-use Rattle.wiring.specs.Layout.{Layout, Direct, is_placed, rank_of}
+use Rattle.wiring.specs.Layout.{Layout, Direct, rank_of}
 use Rattle.wiring.specs.Reach.{Reaches}
 
 -- s is ahead: direct wires reach it from the target, and its rank is at most the source's
@@ -39,7 +39,6 @@ pub record NewOrder (l : Layout) (t p s : ℕ) (order' : List ℕ) : Type 0 wher
 -- m is l with the port p of t fed from s
 pub record Connected (l m : Layout) (t p s : ℕ) : Type 0 where
   pub order : NewOrder l t p s m.order
-  pub placed : (u : ℕ) → is_placed m u ≡ is_placed l u
   pub ports : (u : ℕ) → m.ports u ≡ l.ports u
   pub late : (u q : ℕ) → m.late u q ≡ l.late u q
   pub source : (u q : ℕ) → m.source u q ≡ (rewired l t p (Some s)).source u q

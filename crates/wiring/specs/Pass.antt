@@ -1,5 +1,5 @@
 -- What the two passes of a wire compute, at tables.
-use Rattle.std.specs.Prelude.{◌≡◌, ℕ, ◌-◌, ◌<◌, Bool, true, false, cond, not, List, ◌++◌, take, drop, Some, None, Decides, filter, slice_index, slice_index_or, slice_range}
+use Rattle.std.specs.Prelude.{◌≡◌, ℕ, ◌<◌, Bool, true, false, cond, not, List, ◌++◌, take, drop, Some, None, Decides, filter, slice_index, slice_index_or, slice_range}
 use Rattle.wiring.specs.declared.block.Block.{Block}
 use Rattle.wiring.specs.Layout.{Layout, Direct, is_placed}
 use Rattle.wiring.specs.Reach.{Reaches}

@@ -22,20 +22,20 @@ other_in c =
 pub bounds-out-high : goal.bounds-out-high
 bounds-out-high c = let h = ahead_in c in omega arith
 
-pub overflow-cast-rank : goal.overflow-cast-rank
-overflow-cast-rank c = let h = ahead_in c in search rules
+pub overflow_cast-rank : goal.overflow_cast-rank
+overflow_cast-rank c = let h = ahead_in c in search rules
 
-pub overflow-add-high : goal.overflow-add-high
-overflow-add-high c = let h = ahead_in c in search rules
+pub overflow_add-high : goal.overflow_add-high
+overflow_add-high c = let h = ahead_in c in search rules
 
 pub bounds-out-low : goal.bounds-out-low
 bounds-out-low c = let h = other_in c in omega arith
 
-pub overflow-cast-rank-else-marks-slot : goal.overflow-cast-rank-else-marks-slot
-overflow-cast-rank-else-marks-slot c = let h = other_in c in search rules
+pub overflow_cast-rank-else-marks-slot : goal.overflow_cast-rank-else-marks-slot
+overflow_cast-rank-else-marks-slot c = let h = other_in c in search rules
 
-pub overflow-add-low : goal.overflow-add-low
-overflow-add-low c = let h = other_in c in search rules
+pub overflow_add-low : goal.overflow_add-low
+overflow_add-low c = let h = other_in c in search rules
 
 pub loop-r-preserved : goal.loop-r-preserved
 loop-r-preserved c = elim c.if-marks-slot.branch [

@@ -3,28 +3,18 @@ use Rattle.slots.specs.Tables.{trues, Young}
 use Rattle.slots.proofs.Fresh.{all_one, trues_none, young_none}
 use Rattle.slots.proofs.slots.Slots.blank.Goals as goal
 
-pub invariant-of-result : goal.invariant-of-result
-invariant-of-result c =
+pub invariant_of-result : goal.invariant_of-result
+invariant_of-result c =
     let p = c.args.placed in
-    let none : trues p + 0 ≤ 0 = omega (arith, trues_none 256, ap trues c.requires) in (
-      omega arith,
-      (
-        none,
-        (
-          (λ i l. absurd (omega arith)),
-          (
-            (λ i l. absurd (omega arith)),
-            (
-              (λ i j l. absurd (omega (arith, l.1))),
-              (
-                (λ s l. ap (λ (xs : List Bool). get_or xs s false) c.requires ∙ all_one 256 false s),
-                (
-                  (λ s l. all_one 256 0 s),
-                  (subst (λ (xs : List Bool). Young xs (replicate 256 0)) (sym c.requires) young_none, ((λ i l. absurd (omega arith)), tt)),
-                ),
-              ),
-            ),
-          ),
-        ),
-      ),
-    )
+    let none : trues p + 0 ≤ 0 = omega (arith, trues_none 256, ap trues c.requires) in
+    record {
+      span = omega arith;
+      tally = none;
+      idle = λ i l. absurd (omega arith);
+      been_used = λ i l. absurd (omega arith);
+      apart = λ i j l. absurd (omega (arith, l.1));
+      unused = λ s l. ap (λ (xs : List Bool). get_or xs s false) c.requires ∙ all_one 256 false s;
+      untouched = λ s l. all_one 256 0 s;
+      young = subst (λ (xs : List Bool). Young xs (replicate 256 0)) (sym c.requires) young_none;
+      spare = λ i l. absurd (omega arith);
+    }

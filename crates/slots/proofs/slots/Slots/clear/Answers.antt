@@ -5,34 +5,24 @@ use Rattle.slots.proofs.Trues.{trues_off}
 use Rattle.slots.proofs.Leaving.{was_used, empty_still, other, young_less, spare_less, untouched_less}
 use Rattle.slots.proofs.slots.Slots.clear.Goals as goal
 
-pub invariant-of-self : goal.invariant-of-self
-invariant-of-self c =
+pub invariant_of-self : goal.invariant_of-self
+invariant_of-self c =
     let d = c.args.self.now in
     let s = c.args.slot in
     let n = get_or d.emptied s 0 + 1 in
     let l : s < length d.placed = search rules in
-    let tally : trues (set d.placed s false) + d.count ≤ d.used = omega (arith, trues_off d.placed s c.requires, d.tally) in (
-      d.span,
-      (
-        tally,
-        (
-          (λ i h. empty_still d.placed s c.requires l (get_or d.freed i 0) (d.idle i h)),
-          (
-            d.old,
-            (
-              d.apart,
-              (
-                (λ t h. empty_still d.placed s c.requires l t (d.unused t h)),
-                (
-                  untouched_less d.placed s c.requires l d.emptied d.used n d.unused d.untouched,
-                  (young_less d.placed s c.requires l d.emptied n d.young, (spare_less d.placed s c.requires l d.emptied d.freed d.count n d.idle d.spare, tt)),
-                ),
-              ),
-            ),
-          ),
-        ),
-      ),
-    )
+    let tally : trues (set d.placed s false) + d.count ≤ d.used = omega (arith, trues_off d.placed s c.requires, d.tally) in
+    record {
+      span = d.span;
+      tally = tally;
+      idle = λ i h. empty_still d.placed s c.requires l (get_or d.freed i 0) (d.idle i h);
+      been_used = d.been_used;
+      apart = d.apart;
+      unused = λ t h. empty_still d.placed s c.requires l t (d.unused t h);
+      untouched = untouched_less d.placed s c.requires l d.emptied d.used n d.unused d.untouched;
+      young = young_less d.placed s c.requires l d.emptied n d.young;
+      spare = spare_less d.placed s c.requires l d.emptied d.freed d.count n d.idle d.spare;
+    }
 
 pub returns : goal.returns
 returns c =

@@ -4,33 +4,26 @@ use Rattle.slots.proofs.Trues.{trues_on, top_free, stack_fewer}
 use Rattle.slots.proofs.Taking.{written, young_more, unused_more, idle_less}
 use Rattle.slots.proofs.slots.Slots.reuse.Goals as goal
 
-pub invariant-of-self : goal.invariant-of-self
-invariant-of-self c =
+pub invariant_of-self : goal.invariant_of-self
+invariant_of-self c =
     let d = c.args.self.now in
     let top = d.count - 1 in
     let slot = get_or d.freed top 0 in
     let last : top < d.count = omega arith in
-    let low = d.old top last in
+    let low = d.been_used top last in
     let l : slot < length d.placed = search rules in
-    let tally : trues (set d.placed slot true) + top ≤ d.used = omega (arith, trues_on d.placed slot l (d.idle top last), d.tally) in (
-      d.span,
-      (
-        tally,
-        (
-          idle_less d.placed d.freed d.count c.requires l d.apart d.idle,
-          (
-            (λ i h. d.old i (omega arith)),
-            (
-              (λ i j h. d.apart i j (h.0, omega (arith, h.1))),
-              (
-                unused_more d.placed slot l d.used d.used (omega arith) low d.unused,
-                (d.untouched, (young_more d.placed slot l d.emptied (d.spare top last) d.young, ((λ i h. d.spare i (omega arith)), tt))),
-              ),
-            ),
-          ),
-        ),
-      ),
-    )
+    let tally : trues (set d.placed slot true) + top ≤ d.used = omega (arith, trues_on d.placed slot l (d.idle top last), d.tally) in
+    record {
+      span = d.span;
+      tally = tally;
+      idle = idle_less d.placed d.freed d.count c.requires l d.apart d.idle;
+      been_used = λ i h. d.been_used i (omega arith);
+      apart = λ i j h. d.apart i j (h.0, omega (arith, h.1));
+      unused = unused_more d.placed slot l d.used d.used (omega arith) low d.unused;
+      untouched = d.untouched;
+      young = young_more d.placed slot l d.emptied (d.spare top last) d.young;
+      spare = λ i h. d.spare i (omega arith);
+    }
 
 pub returns : goal.returns
 returns c =

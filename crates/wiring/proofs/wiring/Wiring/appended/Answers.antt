@@ -12,11 +12,11 @@ use Rattle.wiring.proofs.wiring.Wiring.appended.Goals as goal
 pub bounds-order-count : goal.bounds-order-count
 bounds-order-count c = room_for c.args.self c.args.slot (search rules) c.requires.free
 
-pub overflow-cast-rank : goal.overflow-cast-rank
-overflow-cast-rank c = let h = room_for c.args.self c.args.slot (search rules) c.requires.free in search rules
+pub overflow_cast-rank : goal.overflow_cast-rank
+overflow_cast-rank c = let h = room_for c.args.self c.args.slot (search rules) c.requires.free in search rules
 
-pub invariant-of-result : goal.invariant-of-result
-invariant-of-result c =
+pub invariant_of-result : goal.invariant_of-result
+invariant_of-result c =
     let w = c.args.self in
     let s = c.args.slot in
     let b = c.args.block in
@@ -26,7 +26,7 @@ invariant-of-result c =
     let x = inserted_sound w.count w.order w.rank w.live (layout w) m s (search rules) (search rules) (search rules) room (search rules) (sym (live_is w s) ∙ c.requires.free)
     (set_fewer w.slots s b small c.requires.bare w.count (w.count + 1) w.order (set w.order w.count s)) (set_few w.slots s b small c.requires.bare c.requires.few w.few) (sound w) in
     let sized : Sized (set w.order w.count s) (set w.live s true) = (length-set w.order w.count s ∙ w.sized.0, length-set w.live s true ∙ w.sized.1) in
-    (omega arith, (sized, (x.placed, (x.ranked, (x.few, (x.fits, (x.heads, (x.tails, (x.ascends, tt)))))))))
+    record { room = omega arith; sized = sized; placed = x.placed; ranked = x.ranked; few = x.few; fits = x.fits; heads = x.heads; tails = x.tails; ascends = x.ascends }
 
 pub returns : goal.returns
 returns c =

@@ -16,27 +16,27 @@ cut_fewer l m slot ports late source = record {
   late = λ s t p e. late t p;
 }
 
-pub invariant-of-result : goal.invariant-of-result
-invariant-of-result c =
+pub invariant_of-result : goal.invariant_of-result
+invariant_of-result c =
     let w = c.args.self in
     let s = c.args.slot in
-    let mid = c.cut-off-slots.result in
+    let mid = c.cut_off-slots.result in
     let b = c.none.result in
-    let cut = c.cut-off-slots.ensures in
+    let cut = c.cut_off-slots.ensures in
     let small : s < length mid = search rules in
     let few : (t : ℕ) → ports_at mid t ≤ 3 = λ t. let h = w.few t in omega (arith, cut.ports t) in
     let y = fewer_sound (layout w) (layout_of w.count w.order mid) (cut_fewer (layout w) (layout_of w.count w.order mid) s cut.ports cut.late cut.source) w.count w.order w.rank w.live few (sound w) in
     let x = fewer_sound (layout_of w.count w.order mid) (layout_of w.count w.order (set mid s b)) (set_fewer mid s b small c.none.ensures.source w.count w.count w.order w.order) w.count w.order w.rank w.live
     (set_few mid s b small c.none.ensures.source (omega (arith, c.none.ensures.ports)) few) y in
-    (w.room, (w.sized, (x.placed, (x.ranked, (x.few, (x.fits, (x.heads, (x.tails, (x.ascends, tt)))))))))
+    record { room = w.room; sized = w.sized; placed = x.placed; ranked = x.ranked; few = x.few; fits = x.fits; heads = x.heads; tails = x.tails; ascends = x.ascends }
 
 pub returns : goal.returns
 returns c =
     let w = c.args.self in
     let s = c.args.slot in
-    let mid = c.cut-off-slots.result in
+    let mid = c.cut_off-slots.result in
     let b = c.none.result in
-    let cut = c.cut-off-slots.ensures in
+    let cut = c.cut_off-slots.ensures in
     let bare = c.none.ensures.source in
     let small : s < length mid = search rules in
     record {

@@ -16,13 +16,13 @@ fed_sound w m t p from same on in' up =
     rewired_sound (layout w) m t p from same w.count w.order w.rank w.live (alive w t on) in'
     (λ s e. let f = up s e in (alive w s f.0, λ d. let k = f.1 d in omega (arith, rank_at w s f.0, rank_at w t on))) (sound w)
 
-pub invariant-of-result : goal.invariant-of-result
-invariant-of-result c =
+pub invariant_of-result : goal.invariant_of-result
+invariant_of-result c =
     let w = c.args.self in
-    let b = c.with-source.result in
-    let same = set_rewired w.count w.order w.slots c.args.target c.args.port c.args.from b (search rules) c.with-source.ensures.ports c.with-source.ensures.late c.with-source.ensures.source in
+    let b = c.with_source.result in
+    let same = set_rewired w.count w.order w.slots c.args.target c.args.port c.args.from b (search rules) c.with_source.ensures.ports c.with_source.ensures.late c.with_source.ensures.source in
     let x = fed_sound w (layout_of w.count w.order (set w.slots c.args.target b)) c.args.target c.args.port c.args.from same c.requires.target c.requires.port c.requires.from in
-    (w.room, (w.sized, (x.placed, (x.ranked, (x.few, (x.fits, (x.heads, (x.tails, (x.ascends, tt)))))))))
+    record { room = w.room; sized = w.sized; placed = x.placed; ranked = x.ranked; few = x.few; fits = x.fits; heads = x.heads; tails = x.tails; ascends = x.ascends }
 
 pub returns : goal.returns
 returns c =
@@ -30,6 +30,6 @@ returns c =
     let m = rewired (layout w) c.args.target c.args.port c.args.from in
     let x = fed_sound w m c.args.target c.args.port c.args.from (record { order = refl; ports = λ u. refl; late = λ u q. refl; source = λ u q. refl }) c.requires.target c.requires.port c.requires.from in
     record {
-      same = set_rewired w.count w.order w.slots c.args.target c.args.port c.args.from c.with-source.result (search rules) c.with-source.ensures.ports c.with-source.ensures.late c.with-source.ensures.source;
+      same = set_rewired w.count w.order w.slots c.args.target c.args.port c.args.from c.with_source.result (search rules) c.with_source.ensures.ports c.with_source.ensures.late c.with_source.ensures.source;
       free = no_ring (Direct m) (λ s. get_or w.rank s 0) x.ascends;
     }

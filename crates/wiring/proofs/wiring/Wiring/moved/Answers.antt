@@ -2,7 +2,7 @@ use Rattle.std.proofs.Common.{◌≡◌, ℕ, ◌+◌, Bool, true, false, cond, 
 use Rattle.wiring.specs.declared.block.Block.{Block}
 use Rattle.wiring.specs.declared.wiring.Wiring.{Wiring}
 use Rattle.wiring.specs.Change.{rewired}
-use Rattle.wiring.specs.Layout.{Direct, member, is_placed, rank_of, layout_of, ports_at, late_at, source_at}
+use Rattle.wiring.specs.Layout.{Direct, is_placed, rank_of, layout_of, ports_at, late_at, source_at}
 use Rattle.wiring.specs.Order.{Ahead, Dealt, between}
 use Rattle.wiring.specs.Pass.{Marks, marked}
 use Rattle.wiring.specs.Reach.{Reaches}
@@ -28,9 +28,9 @@ returns c =
     let p = c.args.port in
     let s = c.args.source in
     let m = c.args.ahead.marks in
-    let same = c.fed-from.ensures.same in
+    let same = c.fed_from.ensures.same in
     let slots = c.reordered.ensures.slots in
-    let o = (layout c.fed-from.result).order in
+    let o = (layout c.fed_from.result).order in
     let dealt : Dealt l t s o = record {
       others = marked m false (between l t s);
       ahead = marked m true (between l t s);
@@ -40,10 +40,9 @@ returns c =
     record {
       connected = record {
         order = record { kept = λ up. absurd (up c.requires.down); dealt = λ _. dealt; only = λ _ o' d. dealt_once l t s o' o d dealt };
-        placed = λ u. ap (λ (xs : List ℕ). member xs u) same.order ∙ c.reordered.ensures.placed u;
         ports = λ u. same.ports u ∙ ap (λ (xs : List Block). ports_at xs u) slots;
         late = λ u q. same.late u q ∙ ap (λ (xs : List Block). late_at xs u q) slots;
         source = λ u q. same.source u q ∙ ap (λ (xs : List Block). cond (eqb u t && eqb q p) (Some s) (source_at xs u q)) slots;
       };
-      free = λ ring. c.fed-from.ensures.free (subst (λ (xs : List Block). HasRing (Direct (rewired (layout_of w.count w.order xs) t p (Some s)))) (sym slots) ring);
+      free = λ ring. c.fed_from.ensures.free (subst (λ (xs : List Block). HasRing (Direct (rewired (layout_of w.count w.order xs) t p (Some s)))) (sym slots) ring);
     }
