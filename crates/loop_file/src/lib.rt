@@ -1,5 +1,6 @@
 //! Loop files: their grammar, the check, and the lines of the reply.
 #![tactic(auto)]
+
 mod checked;
 mod closing;
 mod command;

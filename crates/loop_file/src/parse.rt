@@ -169,7 +169,7 @@ fn arguments<'a>(verb: Verb, words: &mut Reader<'a>) -> Option<Command<'a>>
 
 // The command of a line that is neither too long nor idle, by its words.
 fn by_words<'a>(line: &'a [u8]) -> Option<Command<'a>>
-    requires { (length line.now ≤ 80) × ((Idle line.now → ⊥)) }
+    requires { (length line.now ≤ 80) × (Idle line.now → ⊥) }
     ensures { Said line.now result }
 {
     let mut words = Reader::new(line);

@@ -66,7 +66,7 @@ fn number_or_zero(words: &mut Reader) -> Option<i32>
 
 // The numbers of all words that are left, which are at most three; a missing one is 0.
 pub(crate) fn up_to_three(words: &mut Reader) -> Option<(i32, i32, i32)>
-    ensures* { λ r. ⌜ elim r [ Some t ↦ Numbers (ahead words.old) t.0 t.1 t.2 × Number t.0 × Number t.1 × Number t.2 | None ↦ ((p q r : ℤ) → Numbers (ahead words.old) p q r → Number p → Number q → Number r → ⊥) ] ⌝ }
+    ensures { elim result [ Some t ↦ Numbers (ahead words.old) t.0 t.1 t.2 × Number t.0 × Number t.1 × Number t.2 | None ↦ ((p q r : ℤ) → Numbers (ahead words.old) p q r → Number p → Number q → Number r → ⊥) ] }
 {
     let Some(p) = number_or_zero(words) else {
         return None;

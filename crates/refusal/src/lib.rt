@@ -1,5 +1,6 @@
 //! The refusals, each by its number, with what it tells.
 #![tactic(auto)]
+
 ghost use Rattle.std.specs.Prelude.{◌≡◌};
 ghost use Rattle.refusal.specs.Numbers.{meaning};
 

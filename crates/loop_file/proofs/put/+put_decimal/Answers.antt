@@ -13,16 +13,16 @@ bounds-buffer-at t c = omega (arith, decimal_nonempty c.args.n (search rules))
 pub returns-then-n-lt10 : goal.returns-then-n-lt10
 returns-then-n-lt10 t c = first_digit c.args.buffer.now c.args.at c.args.n (omega arith) (omega (arith, decimal_nonempty c.args.n (search rules)))
 
-pub put-decimal-on-requires : goal.put-decimal-on-requires
-put-decimal-on-requires t c = omega (arith, longer c.args.n (omega arith) (search rules))
+pub put_decimal-on-requires : goal.put_decimal-on-requires
+put_decimal-on-requires t c = omega (arith, longer c.args.n (omega arith) (search rules))
 
 pub bounds-buffer-on : goal.bounds-buffer-on
 bounds-buffer-on t c = omega (arith, longer c.args.n (omega arith) (search rules))
 
-pub overflow-add-result-2 : goal.overflow-add-result-2
-overflow-add-result-2 t c = record { fits = omega (arith, longer c.args.n (omega arith) (search rules)) }
+pub overflow_add-result-2 : goal.overflow_add-result-2
+overflow_add-result-2 t c = record { fits = omega (arith, longer c.args.n (omega arith) (search rules)) }
 
 pub returns : goal.returns
 returns t c =
-    last_digit c.args.buffer.now c.put-decimal-on.new.buffer c.args.at c.put-decimal-on.result c.args.n (omega arith) (search rules) c.put-decimal-on.ensures
+    last_digit c.args.buffer.now c.put_decimal-on.new.buffer c.args.at c.put_decimal-on.result c.args.n (omega arith) (search rules) c.put_decimal-on.ensures
     (omega (arith, longer c.args.n (omega arith) (search rules)))

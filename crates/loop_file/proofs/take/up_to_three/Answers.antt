@@ -9,26 +9,26 @@ use Rattle.loop_file.proofs.take.up_to_three.Goals as goal
 first_from : (zs : List ℤ) (i : ℕ) (z : ℤ) → z ≡ get_or zs (i + 0) (pos 0) → Number z → Number (get_or (drop i zs) 0 (pos 0))
 first_from zs i z e h = subst Number (e ∙ sym (get_or-drop i zs 0 (pos 0))) h
 
-pub returns-in-default : goal.returns-in-default
-returns-in-default c = λ p q r n i j k. taken _ n.0 c.in-default.ensures n.5 (subst Number n.2 i)
+pub returns-in_default : goal.returns-in_default
+returns-in_default c = λ p q r n i j k. taken _ n.0 c.in_default.ensures n.5 (subst Number n.2 i)
 
-pub returns-in-default-number-or-zero : goal.returns-in-default-number-or-zero
-returns-in-default-number-or-zero c = λ p q r n i j k.
-    taken _ (drop 1 n.0) c.in-default-number-or-zero.ensures (followed _ _ _ n.0 c.in-Some.ensures n.5) (first_from n.0 1 q n.3 j)
+pub returns-in_default-number_or_zero : goal.returns-in_default-number_or_zero
+returns-in_default-number_or_zero c = λ p q r n i j k.
+    taken _ (drop 1 n.0) c.in_default-number_or_zero.ensures (followed _ _ _ n.0 c.in-Some.ensures n.5) (first_from n.0 1 q n.3 j)
 
-pub returns-in-default-number-or-zero-2 : goal.returns-in-default-number-or-zero-2
-returns-in-default-number-or-zero-2 c = λ p q r n i j k.
-    let e = followed _ _ _ (drop 1 n.0) c.in-Some-number-or-zero.ensures (followed _ _ _ n.0 c.in-Some.ensures n.5) in
-    taken _ (drop 2 n.0) c.in-default-number-or-zero-2.ensures (e ∙ ap (map signed_decimal) (drop-drop 1 1 n.0)) (first_from n.0 2 r n.4 k)
+pub returns-in_default-number_or_zero-2 : goal.returns-in_default-number_or_zero-2
+returns-in_default-number_or_zero-2 c = λ p q r n i j k.
+    let e = followed _ _ _ (drop 1 n.0) c.in-Some-number_or_zero.ensures (followed _ _ _ n.0 c.in-Some.ensures n.5) in
+    taken _ (drop 2 n.0) c.in_default-number_or_zero-2.ensures (e ∙ ap (map signed_decimal) (drop-drop 1 1 n.0)) (first_from n.0 2 r n.4 k)
 
-pub returns-then-not-no-more : goal.returns-then-not-no-more
-returns-then-not-no-more c = λ p q r n i j k.
-    let e = followed _ _ _ (drop 1 n.0) c.in-Some-number-or-zero.ensures (followed _ _ _ n.0 c.in-Some.ensures n.5) in
-    let f = followed _ _ _ (drop 2 n.0) c.in-Some-number-or-zero-2.ensures (e ∙ ap (map signed_decimal) (drop-drop 1 1 n.0)) in
-    let t : false ≡ true = c.if-not-no-more.ensures.1 (f ∙ ap (map signed_decimal) (drop-drop 1 2 n.0 ∙ drop_all 3 n.0 n.1)) in
+pub returns-then-not-no_more : goal.returns-then-not-no_more
+returns-then-not-no_more c = λ p q r n i j k.
+    let e = followed _ _ _ (drop 1 n.0) c.in-Some-number_or_zero.ensures (followed _ _ _ n.0 c.in-Some.ensures n.5) in
+    let f = followed _ _ _ (drop 2 n.0) c.in-Some-number_or_zero-2.ensures (e ∙ ap (map signed_decimal) (drop-drop 1 1 n.0)) in
+    let t : false ≡ true = c.if-not-no_more.ensures.1 (f ∙ ap (map signed_decimal) (drop-drop 1 2 n.0 ∙ drop_all 3 n.0 n.1)) in
     let z : ◌≡◌ {A = ℕ} 0 1 = cc in
     omega arith
 
 pub returns : goal.returns
 returns c =
-    search (rules, three _ _ _ _ _ _ _ c.in-Some.ensures c.in-Some-number-or-zero.ensures c.in-Some-number-or-zero-2.ensures (c.if-not-no-more.ensures.0 refl))
+    search (rules, three _ _ _ _ _ _ _ c.in-Some.ensures c.in-Some-number_or_zero.ensures c.in-Some-number_or_zero-2.ensures (c.if-not-no_more.ensures.0 refl))

@@ -9,8 +9,8 @@ use Rattle.words.proofs.word.all_digits.Goals as goal
 step : (s : List ℕ) (i : ℕ) → i < length s → all_ascii_digits (drop i s) ≡ (is_ascii_digit (get_or s i 0) && all_ascii_digits (drop (i + 1) s))
 step s i h = at_drop_more all_ascii_digits s i 0 h
 
-pub returns-then-not-is-digit : goal.returns-then-not-is-digit
-returns-then-not-is-digit c = grind (arith, nat_tests, step c.args.s.now c.loop-x.x-index (omega arith))
+pub returns-then-not-is_digit : goal.returns-then-not-is_digit
+returns-then-not-is_digit c = grind (arith, nat_tests, step c.args.s.now c.loop-x.x-index (omega arith))
 
 pub loop-x-preserved : goal.loop-x-preserved
 loop-x-preserved c = grind (arith, nat_tests, step c.args.s.now c.loop-x.x-index (omega arith))

@@ -3,8 +3,8 @@ use Rattle.std.proofs.lemmas.Fmt.{decimal_injective}
 use Rattle.words.proofs.Numerals.{minus}
 use Rattle.words.proofs.word.negative.Goals as goal
 
-pub returns-in-default : goal.returns-in-default
-returns-in-default c = λ z h. let m = minus c.args.s.now z h in c.in-default.ensures m.0 m.2 m.3
+pub returns-in_default : goal.returns-in_default
+returns-in_default c = λ z h. let m = minus c.args.s.now z h in c.in_default.ensures m.0 m.2 m.3
 
 pub returns-then-n-eq0 : goal.returns-then-n-eq0
 returns-then-n-eq0 c = λ z h.

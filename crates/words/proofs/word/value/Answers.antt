@@ -1,16 +1,16 @@
-use Rattle.std.proofs.Common.{◌≡◌, ◌-◌, ◌^◌, ◌≤◌, drop, decimal, sym, ap, ◌∙◌, arith}
+use Rattle.std.proofs.Common.{◌≡◌, ◌^◌, ◌≤◌, drop, decimal, sym, ap, ◌∙◌, arith}
 use Rattle.std.proofs.lemmas.List.{at_drop_more, at_drop_all}
 use Rattle.words.proofs.Numerals.{read_on, below, small, digit_here, numeral_is}
 use Rattle.words.proofs.word.value.Goals as goal
 
-pub overflow-mul-n : goal.overflow-mul-n
-overflow-mul-n c = omega (arith, small c.loop-x.x-index (omega arith))
+pub overflow_mul-n : goal.overflow_mul-n
+overflow_mul-n c = omega (arith, small c.loop-x.x-index (omega arith))
 
-pub overflow-sub-n : goal.overflow-sub-n
-overflow-sub-n c = (digit_here c.args.s.now c.loop-x.x-index (omega arith) c.loop-x.invariant.1).0
+pub overflow_sub-n : goal.overflow_sub-n
+overflow_sub-n c = (digit_here c.args.s.now c.loop-x.x-index (omega arith) c.loop-x.invariant.1).0
 
-pub overflow-add-n : goal.overflow-add-n
-overflow-add-n c = omega (arith, small c.loop-x.x-index (omega arith), (digit_here c.args.s.now c.loop-x.x-index (omega arith) c.loop-x.invariant.1).1)
+pub overflow_add-n : goal.overflow_add-n
+overflow_add-n c = omega (arith, small c.loop-x.x-index (omega arith), (digit_here c.args.s.now c.loop-x.x-index (omega arith) c.loop-x.invariant.1).1)
 
 pub loop-x-preserved : goal.loop-x-preserved
 loop-x-preserved c =

@@ -1,4 +1,4 @@
-use Rattle.std.proofs.Common.{◌≡◌, ◌-◌, cond, [], ◌∷◌, length, drop, sym, refl, ap, ◌∙◌, arith, length-drop}
+use Rattle.std.proofs.Common.{◌≡◌, ◌-◌, cond, [], ◌∷◌, length, drop, refl, ap, ◌∙◌, arith, length-drop}
 use Rattle.std.proofs.lemmas.List.{length-take-le}
 use Rattle.std.proofs.lemmas.Bool.Decides.{nat_tests}
 use Rattle.words.specs.Parts.{words_of}
@@ -16,17 +16,17 @@ returns-then-n-rest c =
           ∙ last_word_here c.args.self.now.text.now c.after-rest.result.now c.args.self.now.at c.after-rest.ensures (omega arith);
     }
 
-pub invariant-of-self-2 : goal.invariant-of-self-2
-invariant-of-self-2 c = omega (arith, ap length c.after-rest.ensures ∙ length-drop c.args.self.now.at c.args.self.now.text.now)
+pub invariant_of-self-2 : goal.invariant_of-self-2
+invariant_of-self-2 c = omega (arith, ap length c.after-rest.ensures ∙ length-drop c.args.self.now.at c.args.self.now.text.now)
 
 pub returns : goal.returns
 returns c =
     let k : length c.after-rest.result.now ≡ length c.args.self.now.text.now - c.args.self.now.at = ap length c.after-rest.ensures ∙ length-drop c.args.self.now.at c.args.self.now.text.now in
-    let t = length-take-le (c.find-byte-n.result - 0) c.after-rest.result.now (omega arith) in
+    let t = length-take-le (c.find_byte-n.result - 0) c.after-rest.result.now (omega arith) in
     record {
       same = refl;
       place = (omega arith, grind (arith, nat_tests));
       gives =
           simp c.requires
-          (part_here 32 ([] ∷ []) c.args.self.now.text.now c.after-rest.result.now c.args.self.now.at c.find-byte-n.result c.after-rest.ensures c.find-byte-n.ensures.0 (omega arith));
+          (part_here 32 ([] ∷ []) c.args.self.now.text.now c.after-rest.result.now c.args.self.now.at c.find_byte-n.result c.after-rest.ensures c.find_byte-n.ensures.0 (omega arith));
     }
