@@ -1,5 +1,6 @@
 //! The two halves of a scan, for any family: signals worked out by rank, and records brought on.
 #![tactic(auto)]
+
 ghost use Rattle.std.specs.Prelude.{◌≡◌, ◌<◌, ◌≤◌, true, false, length, None};
 ghost use Rattle.family.specs.Meaning.{meaning};
 ghost use Rattle.wiring.specs.View.{layout};

@@ -15,11 +15,11 @@ loop-r-preserved g c =
     let slot = get_or order c.loop-r.r 0 in
     let cur = c.loop-r.records in
     let r = c.index-records-slot.result in
-    let small : slot < 256 = omega (arith, (c.type-inv.order c.loop-r.r).fits) in
+    let small : slot < 256 = omega (arith, (c.type_inv.order c.loop-r.r).fits) in
     let within : slot < length cur = omega (arith, c.loop-r.invariant.size, c.requires.records) in
-    advance_more (meaning g.F.Family) (layout c.args.wiring.now) c.args.signals.now c.args.records.now cur c.loop-r.r slot r c.next-at-next.result
+    advance_more (meaning g.F.Family) (layout c.args.wiring.now) c.args.signals.now c.args.records.now cur c.loop-r.r slot r c.next_at-next.result
     (ap (λ (xs : List ℕ). get_or xs c.loop-r.r 0) e) (omega (arith, ap length e)) within c.order-order.ensures.lawful.apart
-    (slice_get_read cur (length cur) slot r refl within c.index-records-slot.is) c.next-at-next.ensures c.loop-r.invariant
+    (slice_get_read cur (length cur) slot r refl within c.index-records-slot.is) c.next_at-next.ensures c.loop-r.invariant
 
 pub returns : goal.returns
 returns g c =

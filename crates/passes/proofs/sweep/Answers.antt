@@ -15,10 +15,10 @@ loop-r-preserved g c =
     let slot = get_or order c.loop-r.r 0 in
     let rec = c.args.records.now in
     let r = c.index-records-slot.result in
-    let small : slot < 256 = omega (arith, (c.type-inv.order c.loop-r.r).fits) in
-    sweep_more (meaning g.F.Family) (layout c.args.wiring.now) rec c.args.signals.now c.loop-r.signals c.loop-r.r slot r c.output-at-made.result
+    let small : slot < 256 = omega (arith, (c.type_inv.order c.loop-r.r).fits) in
+    sweep_more (meaning g.F.Family) (layout c.args.wiring.now) rec c.args.signals.now c.loop-r.signals c.loop-r.r slot r c.output_at-made.result
     (ap (λ (xs : List ℕ). get_or xs c.loop-r.r 0) e) (omega (arith, ap length e)) (omega (arith, c.loop-r.invariant.size, c.requires.signals))
-    (slice_get_read rec (length rec) slot r refl (omega (arith, c.requires.records)) c.index-records-slot.is) c.output-at-made.ensures c.loop-r.invariant
+    (slice_get_read rec (length rec) slot r refl (omega (arith, c.requires.records)) c.index-records-slot.is) c.output_at-made.ensures c.loop-r.invariant
 
 pub returns : goal.returns
 returns g c =
