@@ -21,7 +21,7 @@ put_port f t p o u q = elim (cases_eq u t) [
   | inr ne ↦ ap (λ (g : ℕ → Option ℕ). g q) (put_other f t (put (f t) p o) u ne) ∙ sym (ap (λ (b : Bool). cond (b && eqb q p) o (f u q)) (ne_eqb u t ne))
 ]
 
-pub ring_in_chart : {F R S : Type 0} (d : Diagram F R S) (t p s : ℕ) → ClosesRing (layout d.wiring) t p s → HasRing (DirectSlots (sourcing t p (Some s) (chart d)))
+pub ring_in_chart : {F : Type 0} (d : Diagram F) (t p s : ℕ) → ClosesRing (layout d.wiring) t p s → HasRing (DirectSlots (sourcing t p (Some s) (chart d)))
 ring_in_chart d t p s ring =
     let l = layout d.wiring in
     has_ring_over (Direct (rewired l t p (Some s))) (DirectSlots (sourcing t p (Some s) (chart d))) (λ k. k)

@@ -39,11 +39,11 @@ fits solve records signals = long records signals
 fits (settle n) records signals = long records signals
 
 -- the blocks by rank
-abbrev pub order_of : {F R S : Type 0} → Diagram F R S → List ℕ
+abbrev pub order_of : {F : Type 0} → Diagram F → List ℕ
 order_of d = (layout d.wiring).order
 
 -- the order of blocks after an accepted call: a new block comes last, a removed one leaves, and a wire moves those ahead of it
-abbrev pub Reordered : {F R S : Type 0} → Call → Diagram F R S → List ℕ → Type 0
+abbrev pub Reordered : {F : Type 0} → Call → Diagram F → List ℕ → Type 0
 Reordered (place kind x) d o = o ≡ order_of d ++ (free (chart d) ∷ [])
 Reordered (remove h) d o = o ≡ filter (λ s. not (s == slot h)) (order_of d)
 Reordered (wire t p s) d o = NewOrder (layout d.wiring) (slot t) p (slot s) o
@@ -53,7 +53,7 @@ Reordered solve d o = o ≡ order_of d
 Reordered (settle n) d o = o ≡ order_of d
 
 -- a refused call leaves the order
-abbrev pub Ordered : {F R S : Type 0} → Call → Answer → Diagram F R S → List ℕ → Type 0
+abbrev pub Ordered : {F : Type 0} → Call → Answer → Diagram F → List ℕ → Type 0
 Ordered c (ok n) d o = Reordered c d o
 Ordered c (refused r) d o = o ≡ order_of d
 
@@ -65,5 +65,5 @@ module _ {F R S : Type 0} (m : Meaning R S) where
     pub order : Ordered c a x.diagram (order_of y.diagram)
 
   -- the same of a call that takes no row, whatever the rows hold
-  abbrev pub Drawn : Call → Diagram F R S → Answer → Diagram F R S → Type 0
+  abbrev pub Drawn : Call → Diagram F → Answer → Diagram F → Type 0
   Drawn c d a e = (records : List R) (signals : List S) → Made c (lent d records signals) a (lent e records signals)

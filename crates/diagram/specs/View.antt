@@ -15,7 +15,7 @@ use Rattle.diagram.specs.Chart.{Chart}
 use Rattle.diagram.specs.World.{World, Sound}
 
 -- the diagram without its ranks
-abbrev pub chart : {F R S : Type 0} → Diagram F R S → Chart
+abbrev pub chart : {F : Type 0} → Diagram F → Chart
 chart d = record {
   placed = (ledger d.slots).placed;
   generation = (ledger d.slots).generation;
@@ -29,7 +29,7 @@ chart d = record {
 }
 
 -- every diagram is sound
-pub sound : {F R S : Type 0} (d : Diagram F R S) → Sound (chart d) (layout d.wiring).order (rank_of (layout d.wiring))
+pub sound : {F : Type 0} (d : Diagram F) → Sound (chart d) (layout d.wiring).order (rank_of (layout d.wiring))
 sound d =
     let l = lawful d.wiring in
     record {
@@ -44,12 +44,12 @@ sound d =
 
 -- a diagram, and the two rows that it is lent
 pub record Lent (F R S : Type 0) : Type 0 where
-  pub diagram : Diagram F R S
+  pub diagram : Diagram F
   pub records : List R
   pub signals : List S
 
 -- these, in a clause
-abbrev pub lent : {F R S : Type 0} → Diagram F R S → List R → List S → Lent F R S
+abbrev pub lent : {F R S : Type 0} → Diagram F → List R → List S → Lent F R S
 lent d records signals = record { diagram = d; records = records; signals = signals }
 
 -- as a world

@@ -4,7 +4,6 @@ ghost use Rattle.wiring.specs.Layout.{is_placed};
 ghost use Rattle.wiring.specs.View.{layout};
 ghost use Rattle.slots.specs.View.{ledger};
 
-use family::Family;
 use slots::Slots;
 use std::marker::PhantomData;
 use wiring::Wiring;
@@ -19,7 +18,7 @@ mod wires;
 /// A diagram of blocks of one family: 256 slots, the blocks' wires and their order, and the scan that is open.
 /// The blocks' records and signals stand in two rows, which each call that needs them is lent.
 #[derive(Drop)]
-pub struct Diagram<F: Family> {
+pub struct Diagram<F> {
     wiring: Wiring,
     slots: Slots,
     scan: Option<u32>,

@@ -1,5 +1,6 @@
 //! A block diagram over two rows that its caller lends, for any family.
 #![tactic(auto)]
+
 mod diagram;
 mod rows;
 mod token;

@@ -8,7 +8,7 @@ use Rattle.runner.specs.declared.names.Names.{Names}
 use Rattle.runner.specs.Lines.{Desk}
 
 -- a desk of these parts
-abbrev pub desk : {F R S : Type 0} → Diagram F R S → List R → List S → Names → List ℕ → ℕ → Desk F R S
+abbrev pub desk : {F R S : Type 0} → Diagram F → List R → List S → Names → List ℕ → ℕ → Desk F R S
 desk d records signals names said room = record { lent = lent d records signals; names = names; said = said; room = room }
 
 -- a desk whose reply stands in a buffer up to a place

@@ -67,7 +67,7 @@ module _ {R S : Type 0} (m : Meaning R S) where
     pub confinement : Confinement
 
 -- a fresh diagram: no block, no open scan, with any two rows of at least 256 entries it begins a session, and every session of its family keeps the law
-pub record Begun {F R S : Type 0} (m : Meaning R S) (d : Diagram F R S) : Type 0 where
+pub record Begun {F R S : Type 0} (m : Meaning R S) (d : Diagram F) : Type 0 where
   pub empty : chart d ≡ empty
   pub order : order_of d ≡ []
   pub begins : (records : List R) (signals : List S) → long records signals ≡ true → Session m [] (world m (lent d records signals))

@@ -10,23 +10,23 @@ use Rattle.diagram.proofs.Agree.{agree_more}
 use Rattle.diagram.proofs.Placed.{same_chart, ports_more, direct_more, source_more}
 use Rattle.diagram.proofs.diagram.Diagram.put_in.Goals as goal
 
-pub invariant-of-self : goal.invariant-of-self
-invariant-of-self g c =
+pub invariant_of-self : goal.invariant_of-self
+invariant_of-self g c =
     let d = c.args.self.now in
     let w = c.in-Ok.wiring in
     let s = c.args.slot in
-    let x = c.shape-of.result in
+    let x = c.shape_of.result in
     let k : Same (ledger c.take.new.self) (filled (ledger d.slots) s) = search rules in
     let l : SameLayout (layout w) (inserted (layout d.wiring) s x.ports x.late) = search rules in
-    (agree_more (layout d.wiring) (layout w) s (ledger d.slots) (ledger c.take.new.self) l.order d.agree k.placed, tt)
+    record { agree = agree_more (layout d.wiring) (layout w) s (ledger d.slots) (ledger c.take.new.self) l.order d.agree k.placed }
 
 pub returns-in-Ok : goal.returns-in-Ok
 returns-in-Ok g c =
     let d = c.args.self.now in
     let w = c.in-Ok.wiring in
     let s = c.args.slot in
-    let x = c.shape-of.result in
-    let e = c.shape-of.ensures in
+    let x = c.shape_of.result in
+    let e = c.shape_of.ensures in
     let m = meaning g.F.Family in
     let few = g.met.F.Family.few in
     let k : Same (ledger c.take.new.self) (filled (ledger d.slots) s) = search rules in
@@ -46,8 +46,8 @@ returns-in-Ok g c =
       order = l.order;
     }
 
-pub returns-in-default : goal.returns-in-default
-returns-in-default g c =
+pub returns-in_default : goal.returns-in_default
+returns-in_default g c =
     let d = c.args.self.now in
     let few : (meaning g.F.Family).ports c.args.block ≤ 3 = g.met.F.Family.few c.args.block in
     let bare : is_placed (layout d.wiring) c.args.slot ≡ false = d.agree c.args.slot ∙ (free_empty d.slots c.args.slot c.requires).0 in
