@@ -8,7 +8,7 @@ use Rattle.diagram.specs.Calls as calls
 use Rattle.diagram.specs.Chart.{first}
 use Rattle.diagram.specs.Made.{Made, fits}
 use Rattle.diagram.specs.View.{Lent, world}
-use Rattle.session.specs.Law.{Session, then}
+use Rattle.session.specs.Begun.{Session, then}
 use Rattle.loop_file.specs.declared.outcome.Outcome.{Outcome}
 use Rattle.loop_file.specs.Orders.{Order, nothing, block, wire, cut, remove, tune, feed, scan, show}
 use Rattle.runner.specs.Lines.{Desk, line_checks, call_of}

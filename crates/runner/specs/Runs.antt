@@ -6,7 +6,7 @@ use Rattle.diagram.specs.Calls.{Call, Answer, ok, refused, Event}
 use Rattle.diagram.specs.Chart.{first}
 use Rattle.diagram.specs.Made.{Made}
 use Rattle.diagram.specs.View.{Lent, world}
-use Rattle.session.specs.Law.{Session}
+use Rattle.session.specs.Begun.{Session}
 use Rattle.loop_file.specs.declared.outcome.Outcome.{Outcome}
 use Rattle.loop_file.specs.declared.outcome.Outcome.TheVariants.{Ended, Stopped}
 use Rattle.loop_file.specs.Lines.{Says}

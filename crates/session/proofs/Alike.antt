@@ -2,11 +2,12 @@
 use Rattle.std.proofs.Common.{◌≡◌, ℕ, true, false, List, [], ◌∷◌, is_some, sym, refl, ap, ◌∙◌, subst, inl, inr, arith}
 use Rattle.std.proofs.lemmas.Bool.{cases_Bool, cond-true, cond-false, both_ways}
 use Rattle.family.specs.Meaning.{Meaning}
-use Rattle.diagram.specs.Calls.{edit, Event, stirs, Lawful}
-use Rattle.diagram.specs.Chart.{Chart, names, empty, first}
+use Rattle.diagram.specs.Calls.{Event, stirs, Lawful}
+use Rattle.diagram.specs.Chart.{Chart, names, empty}
 use Rattle.diagram.specs.World.{World, Does}
 use Rattle.session.specs.Plan.{planned, plan, Wake}
-use Rattle.session.specs.Law.{Long, Session, start, then, others, Confinement}
+use Rattle.session.specs.Law.{others}
+use Rattle.session.specs.Begun.{Long, Session, start, then, Confinement}
 use Rattle.session.proofs.Steps.{coherent}
 use Rattle.session.proofs.Solving.{stands}
 use Rattle.session.proofs.Wakes.{Twin, both, stir_left, stir_right}

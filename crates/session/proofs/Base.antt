@@ -1,8 +1,8 @@
 -- Small facts: options, a function changed at one place, handles.
-use Rattle.std.proofs.Common.{◌≡◌, ℕ, ◌+◌, ◌*◌, ◌/◌, ◌<◌, Bool, true, false, cond, not, eqb, List, ◌∷◌, is_some, Some, None, Option, sym, refl, ap, ◌∙◌, inl, inr, arith}
+use Rattle.std.proofs.Common.{◌≡◌, ℕ, ◌+◌, ◌*◌, ◌/◌, ◌<◌, Bool, true, false, cond, eqb, List, ◌∷◌, is_some, Some, None, Option, sym, refl, ap, ◌∙◌, inl, inr, arith}
 use Rattle.std.proofs.lemmas.Bool.{eq-eqb, eqb-true, cases_Bool, and_parts, and_from, and_left, both_ways}
 use Rattle.refusal.specs.declared.refusals.Refusal.{Refusal}
-use Rattle.diagram.specs.Calls.{place, ok, refused}
+use Rattle.diagram.specs.Calls.{ok, refused}
 use Rattle.wiring.specs.Change.{off}
 use Rattle.diagram.specs.Chart.{Chart, slot, handle, names, when, first}
 

@@ -7,10 +7,10 @@ use Rattle.family.specs.Meaning.{Meaning}
 use Rattle.passes.specs.Rows.{put, on_some}
 use Rattle.passes.specs.Scan.{carried, inputs_of}
 use Rattle.wiring.specs.Change.{off}
-use Rattle.diagram.specs.Chart.{Chart, slot, handle, names, empty, placing, removing, sourcing}
+use Rattle.diagram.specs.Chart.{Chart, slot, handle, names, placing, removing, sourcing}
 use Rattle.diagram.specs.World.{Sound}
-use Rattle.session.specs.Plan.{Plan, plan}
-use Rattle.session.specs.Law.{Long}
+use Rattle.session.specs.Plan.{Plan}
+use Rattle.session.specs.Begun.{Long}
 use Rattle.passes.proofs.Rows.{put_same, put_other}
 use Rattle.session.proofs.Base.{none_some, some_same, cond_same, parts, slot_handle, named, names_from, one_handle, not_named}
 

@@ -6,3 +6,5 @@ mod Solving
 mod Rings
 mod Wakes
 mod Alike
+mod Longer
+mod Law

@@ -1,7 +1,6 @@
 -- A wire is refused where it closes a ring.
-use Rattle.std.proofs.Common.{◌≡◌, ℕ, ◌<◌, true, false, ◌⊎◌, List, [], ◌∷◌, is_some, Some, None, Option, sym, refl, ap, ◌∙◌, subst, inl, inr, arith}
+use Rattle.std.proofs.Common.{◌≡◌, ℕ, ◌<◌, true, false, ◌⊎◌, [], is_some, Some, None, Option, sym, refl, ap, ◌∙◌, subst, inl, inr}
 use Rattle.std.proofs.lemmas.Bool.{lt-ltb, cases_eq, and_from, not_from_true}
-use Rattle.family.specs.Laws.{direct}
 use Rattle.family.specs.Meaning.{Meaning}
 use Rattle.wiring.specs.Ring.{HasRing}
 use Rattle.wiring.proofs.Rings.{no_ring, has_ring_over}
@@ -11,7 +10,8 @@ use Rattle.diagram.specs.Calls.{wire, Answer, ok, refused, Lawful}
 use Rattle.diagram.specs.Chart.{Chart, slot, handle, names, charted, first, checks}
 use Rattle.diagram.specs.World.{World, DirectSlots, Does}
 use Rattle.session.specs.Plan.{Plan, Direct, grown, planned, plan}
-use Rattle.session.specs.Law.{then, Passes, Rings}
+use Rattle.session.specs.Law.{Passes}
+use Rattle.session.specs.Begun.{then, Rings}
 use Rattle.passes.proofs.Rows.{put_same, put_other}
 use Rattle.session.proofs.Base.{none_some, some_same, some_is, named, names_handle, slot_handle, check_from}
 use Rattle.session.proofs.Coherent.{Coherent, block_in, source_in}

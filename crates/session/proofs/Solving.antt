@@ -6,11 +6,12 @@ use Rattle.family.specs.Laws.{direct}
 use Rattle.family.specs.Meaning.{Meaning}
 use Rattle.passes.specs.Rows.{on_some}
 use Rattle.passes.specs.Scan.{carried, inputs_of}
-use Rattle.diagram.specs.Calls.{wire, solve, ok, Lawful}
+use Rattle.diagram.specs.Calls.{solve, ok, Lawful}
 use Rattle.diagram.specs.Chart.{Chart, slot, handle, names}
 use Rattle.diagram.specs.World.{World, signalled, Does}
 use Rattle.session.specs.Plan.{Plan, Equation, Wired, grown, planned, plan}
-use Rattle.session.specs.Law.{then, OneSolution, Solution}
+use Rattle.session.specs.Law.{OneSolution}
+use Rattle.session.specs.Begun.{then, Solution}
 use Rattle.session.proofs.Base.{none_some, some_is, slot_small, named, names_handle, slot_handle, ok_refused}
 use Rattle.session.proofs.Coherent.{Coherent, block_in, block_out, source_in, source_out, carried_same}
 use Rattle.session.proofs.Sweep.{late_law_at, swept_solves}

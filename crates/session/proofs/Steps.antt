@@ -9,13 +9,13 @@ use Rattle.passes.specs.Rows.{put, or_else, on_some}
 use Rattle.passes.specs.Scan.{inputs_of}
 use Rattle.refusal.specs.declared.refusals.Refusal.{Refusal}
 use Rattle.refusal.specs.declared.refusals.Refusal.TheVariants.{DiagramOpen, WrongScan, UnknownHandle, UnknownKind, BadParameter, NoFreeSlot, MakesRing}
-use Rattle.diagram.specs.Calls.{Edit, tune, feed, Call, place, remove, wire, cut, edit, solve, settle, Answer, refused, Event, amiss, edited, Lawful}
+use Rattle.diagram.specs.Calls.{Edit, tune, feed, Call, place, remove, wire, cut, edit, solve, settle, Answer, Event, amiss, edited, Lawful}
 use Rattle.wiring.specs.Change.{off}
 use Rattle.slots.specs.Ledger.{free_of}
 use Rattle.diagram.specs.Chart.{slot, handle, names, empty, free, charted, given, when, first, is_scan, checks}
 use Rattle.diagram.specs.World.{World, look, refusing, recorded, signalled, Accepted, Closes, Refused, By, Does}
 use Rattle.session.specs.Plan.{Plan, grown, planned, plan}
-use Rattle.session.specs.Law.{Long, Session, start, then}
+use Rattle.session.specs.Begun.{Long, Session, start, then}
 use Rattle.session.proofs.Base.{none_some, some_same, first_none, check_none, slot_small, slot_handle, named}
 use Rattle.session.proofs.Coherent.{Coherent, placed_blocks, placed_wires, placed_agrees, removed_blocks, removed_wires, removed_agrees, sourced_wires, edited_blocks, edited_agrees, settled_blocks, settled_agrees, carried_same, long_put, long_some, some_still}
 

@@ -6,7 +6,6 @@ use Rattle.family.specs.Meaning.{Meaning}
 use Rattle.passes.specs.Rows.{put, or_else, on_some}
 use Rattle.passes.specs.Scan.{carried, inputs_of, swept}
 use Rattle.diagram.specs.Calls.{Lawful}
-use Rattle.diagram.specs.Chart.{slot}
 use Rattle.diagram.specs.World.{World}
 use Rattle.passes.proofs.Rows.{put_same, put_other}
 use Rattle.session.proofs.Coherent.{Agrees}

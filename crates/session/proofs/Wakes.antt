@@ -1,5 +1,5 @@
 -- Two sessions that differ in feeds and tunes of one block differ in its wake alone.
-use Rattle.std.proofs.Common.{◌≡◌, ℕ, ◌+◌, ◌/◌, ◌<◌, Bool, true, false, cond, not, ◌&&◌, eqb, ◌⊎◌, is_some, Some, None, Option, sym, refl, ap, ◌∙◌, subst, ap₂, inl, inr, arith}
+use Rattle.std.proofs.Common.{◌≡◌, ℕ, ◌+◌, ◌/◌, ◌<◌, Bool, true, false, cond, ◌&&◌, eqb, ◌⊎◌, is_some, Some, None, Option, sym, refl, ap, ◌∙◌, subst, ap₂, inl, inr, arith}
 use mathlib.Core.Path.{fun_ext}
 use Rattle.std.proofs.lemmas.Bool.{eqb-true, cases_eq, both_ways}
 use Rattle.family.specs.declared.values.Params.{Params}
@@ -9,11 +9,10 @@ use Rattle.wiring.specs.Ring.{HasRing}
 use Rattle.passes.specs.Rows.{put, on_some}
 use Rattle.passes.specs.Scan.{carried}
 use Rattle.refusal.specs.declared.refusals.Refusal.TheVariants.{DiagramOpen}
-use Rattle.diagram.specs.Calls.{tune, feed, Call, place, remove, wire, cut, edit, solve, settle, Answer, refused, stirs, amiss, edited, Lawful}
-use Rattle.diagram.specs.Chart.{Chart, slot, handle, names, free, removing, charted, given, first, checks}
+use Rattle.diagram.specs.Calls.{Call, place, remove, wire, cut, edit, solve, settle, Answer, stirs, amiss, edited, Lawful}
+use Rattle.diagram.specs.Chart.{Chart, slot, names, free, removing, charted, given, first, checks}
 use Rattle.diagram.specs.World.{World, DirectSlots, look, refusing, Accepted, Closes, Does}
 use Rattle.session.specs.Plan.{Plan, Wired, grown, planned, spread, waking}
-use Rattle.session.specs.Law.{then}
 use Rattle.passes.proofs.Rows.{put_same, put_other}
 use Rattle.session.proofs.Base.{none_some, some_is, slot_small, named, check_none}
 use Rattle.session.proofs.Coherent.{Coherent, block_in, source_of, inputs_same, places_other, removes_other, removes_here}

@@ -1,24 +1,16 @@
 -- The law of sessions.
-use Rattle.std.specs.Prelude.{◌≡◌, ℕ, ◌<◌, true, false, cond, ◌⊎◌, List, [], ◌∷◌, is_some, Some, None, Option}
+use Rattle.std.specs.Prelude.{◌≡◌, ℕ, ◌<◌, false, cond, ◌⊎◌, List, [], ◌∷◌, Some, None}
 use Rattle.family.specs.Meaning.{Meaning}
 use Rattle.wiring.specs.Ring.{HasRing}
 use Rattle.refusal.specs.declared.refusals.Refusal.TheVariants.{MakesRing}
 use Rattle.diagram.specs.Calls.{Call, wire, solve, ok, refused, Event, stirs}
 use Rattle.diagram.specs.Chart.{slot, empty}
-use Rattle.diagram.specs.World.{World, Does}
-use Rattle.diagram.specs.declared.diagram.Diagram.{Diagram}
-use Rattle.diagram.specs.View.{chart, lent, world}
-use Rattle.diagram.specs.Made.{order_of}
-use Rattle.passes.specs.Scan.{long}
+use Rattle.session.specs.World.{World, Does}
 use Rattle.session.specs.Plan.{Plan, plan, rewired, Equation, Direct, Wake}
 
--- a record row has an entry for each slot
-abbrev pub Long : {R : Type 0} → (ℕ → Option R) → Type 0
-Long records = (s : ℕ) → s < 256 → is_some (records s) ≡ true
-
--- the events es, the last one first, bring a fresh diagram and two rows of at least 256 entries, which nothing else changes, to the world w
+-- the events es, the last one first, bring a fresh diagram and two rows that nothing else changes to the world w
 pub data Session {R S : Type 0} (m : Meaning R S) : List (Event S) → World R S → Type 0 where
-  start : {w : World R S} → w.chart ≡ empty → Long w.records → Session m [] w
+  start : {w : World R S} → w.chart ≡ empty → Session m [] w
   then : {w v : World R S} {es : List (Event S)} (e : Event S) → Session m es w → Does m e.call w e.answer v → ((s : ℕ) → e.signals s ≡ v.signals s) → Session m (e ∷ es) v
 
 -- the calls but the feeds and tunes of h
@@ -65,10 +57,3 @@ module _ {R S : Type 0} (m : Meaning R S) where
     pub rings : Rings
     pub solution : Solution
     pub confinement : Confinement
-
--- a fresh diagram: no block, no open scan, with any two rows of at least 256 entries it begins a session, and every session of its family keeps the law
-pub record Begun {F R S : Type 0} (m : Meaning R S) (d : Diagram F) : Type 0 where
-  pub empty : chart d ≡ empty
-  pub order : order_of d ≡ []
-  pub begins : (records : List R) (signals : List S) → long records signals ≡ true → Session m [] (world m (lent d records signals))
-  pub law : SessionLaw m

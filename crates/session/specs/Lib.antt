@@ -1,2 +1,4 @@
 pub mod Plan
+pub mod World
 pub mod Law
+pub mod Begun

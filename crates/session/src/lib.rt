@@ -1,14 +1,21 @@
 //! Fresh diagrams, with the law that every session of calls on one keeps.
 #![tactic(auto)]
+
 ghost use Rattle.family.specs.Meaning.{meaning};
 ghost use Rattle.loop_blocks.specs.Loops.{loops};
 ghost use Rattle.interlock_blocks.specs.Interlocks.{interlocks};
-ghost use Rattle.session.specs.Law.{Begun};
+ghost use Rattle.session.specs.Law.{SessionLaw};
+ghost use Rattle.session.specs.Begun.{Begun};
 
 use diagram::Diagram;
 use family::Family;
 use interlock_blocks::Interlocks;
 use loop_blocks::Loops;
+
+/// The law of sessions holds of every family.
+pub fn sessions<F: Family>()
+    ensures { SessionLaw (meaning F.Family) }
+{}
 
 /// A diagram with no block and no open scan, of which the law of sessions holds.
 pub fn fresh<F: Family>() -> Diagram<F>

@@ -1,4 +1,4 @@
-use Rattle.std.proofs.Common.{◌≡◌, ◌≤◌, false, sym, refl, ◌∙◌, rules}
+use Rattle.std.proofs.Common.{◌≡◌, ◌≤◌, false, refl, ◌∙◌, rules}
 use Rattle.family.specs.Meaning.{meaning}
 use Rattle.wiring.specs.Layout.{is_placed}
 use Rattle.wiring.specs.View.{layout}
