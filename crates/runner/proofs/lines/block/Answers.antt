@@ -19,7 +19,7 @@ returns g c =
     let free : is_some used ≡ false = search rules in
     let shut : is_some d.scan ≡ false = search rules in
     record {
-      tried = λ said room. new_name m (λ h. h) k (Ok c.in-ok-handle.handle) l (is_some d.scan) used (m.word c.args.kind.now) c.in-Some.code shut free
-          (sym c.word.ensures ∙ c.in-Some.is) (λ n. place n c.args.params) (subst (λ (r : Result ℕ Refusal). Made m (place c.in-Some.code c.args.params) k (answer (λ h. h) r) l) c.in-ok-handle.was c.place.ensures);
+      tried = λ said room. new_name m (λ h. h) k (Ok c.in_ok-handle.handle) l (is_some d.scan) used (m.word c.args.kind.now) c.in-Some.code shut free
+          (sym c.word.ensures ∙ c.in-Some.is) (λ n. place n c.args.params) (subst (λ (r : Result ℕ Refusal). Made m (place c.in-Some.code c.args.params) k (answer (λ h. h) r) l) c.in_ok-handle.was c.place.ensures);
       entered = (c.keep.ensures.name, c.keep.ensures.handle);
     }

@@ -6,5 +6,5 @@ use Rattle.runner.proofs.lines.cut.Goals as goal
 
 pub returns : goal.returns
 returns g c records signals said room =
-    one_name (meaning g.F.Family) (λ _. 0) (lent c.args.diagram.now records signals) c.cut.result (lent c.cut.new.self records signals) _ _ c.in-ok-handle.handle
-    c.in-ok-handle.ensures.0 c.in-ok-handle.ensures.1 (λ h. cut h c.args.port) (c.cut.ensures records signals)
+    one_name (meaning g.F.Family) (λ _. 0) (lent c.args.diagram.now records signals) c.cut.result (lent c.cut.new.self records signals) _ _ c.in_ok-handle.handle
+    c.in_ok-handle.ensures.0 c.in_ok-handle.ensures.1 (λ h. cut h c.args.port) (c.cut.ensures records signals)

@@ -6,5 +6,5 @@ use Rattle.runner.proofs.lines.remove.Goals as goal
 
 pub returns : goal.returns
 returns g c records signals said room =
-    one_name (meaning g.F.Family) (λ _. 0) (lent c.args.diagram.now records signals) c.remove.result (lent c.remove.new.self records signals) _ _ c.in-ok-handle.handle
-    c.in-ok-handle.ensures.0 c.in-ok-handle.ensures.1 remove (c.remove.ensures records signals)
+    one_name (meaning g.F.Family) (λ _. 0) (lent c.args.diagram.now records signals) c.remove.result (lent c.remove.new.self records signals) _ _ c.in_ok-handle.handle
+    c.in_ok-handle.ensures.0 c.in_ok-handle.ensures.1 remove (c.remove.ensures records signals)

@@ -15,8 +15,8 @@ use Rattle.runner.proofs.runs.follow.Goals as goal
 pub loop-command-init : goal.loop-command-init
 loop-command-init g c = ([], [], refl, start, refl, c.requires.rows, omega arith, refl)
 
-pub overflow-add-line : goal.overflow-add-line
-overflow-add-line g c =
+pub overflow_add-line : goal.overflow_add-line
+overflow_add-line g c =
     let v = c.loop-command.invariant in
     let n = c.in-Some.ensures in
     let all : length (lines_ahead c.args.commands.reader) ≡ length v.0 + length (lines_ahead c.loop-command.commands.reader) = ap length v.2 ∙ length-append v.0 (lines_ahead c.loop-command.commands.reader) in
@@ -28,7 +28,7 @@ loop-command-preserved g c =
     let n = c.in-Some.ensures in
     let b = c.in-Ok.ensures in
     let rows : long c.obey.new.records c.obey.new.signals ≡ true = search rules in
-    let ahead = lines_ahead c.next-command.new.self.reader in (
+    let ahead = lines_ahead c.next_command.new.self.reader in (
       v.0 ++ (n.0 ∷ []),
       b.events ++ v.1,
       v.2 ∙ ap (λ (q : List (List ℕ)). v.0 ++ q) n.1 ∙ sym (append_assoc v.0 (n.0 ∷ []) ahead),
@@ -49,7 +49,7 @@ returns-in-Err g c =
     let x = desk_of (lent c.args.diagram.now c.args.records.now c.args.signals.now) c.args.names.now c.args.reply.now 0 in
     let y = desk_of (lent c.obey.new.diagram c.obey.new.records c.obey.new.signals) c.obey.new.names c.obey.new.reply c.loop-command.written in
     let did : RunOf m lines x (b.events ++ v.1) (Stopped (length v.0 + 1) c.in-Err.refusal) y =
-    stopped v.0 (lines_ahead c.next-command.new.self.reader) n.0 (order c.in-Some.command) b.events c.in-Err.refusal (v.2 ∙ ap (λ (q : List (List ℕ)). v.0 ++ q) n.1) v.3 n.2 b.line in
+    stopped v.0 (lines_ahead c.next_command.new.self.reader) n.0 (order c.in-Some.command) b.events c.in-Err.refusal (v.2 ∙ ap (λ (q : List (List ℕ)). v.0 ++ q) n.1) v.3 n.2 b.line in
     let run = subst (λ (k : ℕ). RunOf m lines x (b.events ++ v.1) (Stopped (k + 1) c.in-Err.refusal) y) v.4 did in
     record {
       ran = record { events = b.events ++ v.1; run = run; counts = λ es s. counted m lines x y (b.events ++ v.1) es _ run s };
@@ -64,7 +64,7 @@ returns g c =
     let lines = lines_ahead c.args.commands.reader in
     let x = desk_of (lent c.args.diagram.now c.args.records.now c.args.signals.now) c.args.names.now c.args.reply.now 0 in
     let y = desk_of (lent c.loop-command.diagram c.loop-command.records c.loop-command.signals) c.loop-command.names c.loop-command.reply c.loop-command.written in
-    let all : v.0 ≡ lines = sym (v.2 ∙ ap (λ (q : List (List ℕ)). v.0 ++ q) c.in-default.ensures.0 ∙ append-nil v.0) in
+    let all : v.0 ≡ lines = sym (v.2 ∙ ap (λ (q : List (List ℕ)). v.0 ++ q) c.in_default.ensures.0 ∙ append-nil v.0) in
     let did : RunOf m lines x v.1 (Ended (length lines)) y = ended (subst (λ (q : List (List ℕ)). Followed m x q v.1 y) all v.3) in
     let run = subst (λ (k : ℕ). RunOf m lines x v.1 (Ended k) y) (sym c.requires.count) did in
     record {

@@ -11,7 +11,7 @@ loop-n-init g c =
 
 pub loop-n-preserved : goal.loop-n-preserved
 loop-n-preserved g c =
-    let rows : long c.scan-once.new.records c.scan-once.new.signals ≡ true = search rules in
-    let s = c.scan-once.ensures.scan in
+    let rows : long c.scan_once.new.records c.scan_once.new.signals ≡ true = search rules in
+    let s = c.scan_once.ensures.scan in
     let so_far = c.loop-n.invariant.2 in
-    (c.scan-once.ensures.shut, rows, (scan_events (meaning g.F.Family) s so_far.0, rw add-one (more so_far.1 s)))
+    (c.scan_once.ensures.shut, rows, (scan_events (meaning g.F.Family) s so_far.0, rw add-one (more so_far.1 s)))

@@ -11,4 +11,4 @@ abbrev pub invariant-loop-n : goal.invariant-loop-n
 invariant-loop-n g l =
     (is_some (chart l.diagram).scan ≡ false)
     × (long l.records l.signals ≡ true)
-    × ((es : List (Event g.row.F-Signal.Denot)) × Scanned (meaning g.F.Family) (lent l.initial.diagram l.initial.records l.initial.signals) l.-n es (lent l.diagram l.records l.signals))
+    × ((es : List (Event g.row.F-Signal.Denot)) × Scanned (meaning g.F.Family) (lent l.initial.diagram l.initial.records l.initial.signals) l._n es (lent l.diagram l.records l.signals))
