@@ -1,5 +1,6 @@
 //! A whole scan of a diagram, and diagrams that are drawn and run by tables of calls.
 #![tactic(auto)]
+
 ghost use Rattle.std.specs.Prelude.{◌≡◌, true, Some, None, Ok, Err};
 ghost use Rattle.passes.specs.Scan.{long};
 ghost use Rattle.diagram.specs.Chart.{following};

@@ -1,5 +1,6 @@
 //! Runs a file of interlocks: `locks < FILE`.
 #![tactic(auto)]
+
 use family::{Family, Params};
 use interlock_blocks::Interlocks;
 use session::fresh_interlocks;

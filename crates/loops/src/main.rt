@@ -1,5 +1,6 @@
 //! Runs a file of loops: `loops < FILE`.
 #![tactic(auto)]
+
 use family::{Family, Params};
 use loop_blocks::Loops;
 use session::fresh_loops;

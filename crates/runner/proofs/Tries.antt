@@ -1,5 +1,5 @@
 -- A line whose checks are passed does what its call does.
-use Rattle.std.proofs.Common.{◌≡◌, ℕ, Bool, true, false, not, ◌&&◌, [], ◌∷◌, is_some, Some, None, Option, Result, sym, refl, ap, ◌∙◌, subst}
+use Rattle.std.proofs.Common.{◌≡◌, ℕ, Bool, true, false, not, ◌&&◌, [], ◌∷◌, is_some, Some, None, Option, Result, sym, refl, ap, subst}
 use Rattle.std.proofs.lemmas.Bool.{both_ways}
 use Rattle.family.specs.Meaning.{Meaning}
 use Rattle.passes.specs.Rows.{or_else}

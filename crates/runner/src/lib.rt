@@ -1,5 +1,6 @@
 //! Runs of checked files on a diagram.
 #![tactic(auto)]
+
 mod lines;
 mod names;
 mod obey;

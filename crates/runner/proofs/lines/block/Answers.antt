@@ -1,4 +1,4 @@
-use Rattle.std.proofs.Common.{◌≡◌, ℕ, false, is_some, Some, Ok, Result, sym, ◌∙◌, subst, rules}
+use Rattle.std.proofs.Common.{◌≡◌, ℕ, false, is_some, Ok, Result, sym, ◌∙◌, subst, rules}
 use Rattle.family.specs.Meaning.{meaning}
 use Rattle.refusal.specs.declared.refusals.Refusal.{Refusal}
 use Rattle.diagram.specs.Calls.{place}
