@@ -1,6 +1,6 @@
 # run: run a loop file (FILE=..; one that ends in .locks is of interlocks); kiln: a drying task; test: the whole gate;
 # compare: both implementations on generated files (SEED=.. COUNT=..)
-.PHONY: run kiln test compare reference
+.PHONY: run kiln test compare reference program
 
 FILE ?= examples/wet_bulb.loops
 SEED ?= 1
@@ -10,14 +10,17 @@ COUNT ?= 2000
 PROGRAM = $(if $(filter %.locks,$(FILE)),locks,loops)
 
 run:
-	@mkdir -p target
-	@rt check $(PROGRAM) > target/run.log 2>&1 || { cat target/run.log; exit 1; }
-	@target/bin/$(PROGRAM) < $(FILE)
+	@$(MAKE) --no-print-directory program NAME=$(PROGRAM)
+	@crates/$(PROGRAM)/out/$(PROGRAM) < $(FILE)
 
 kiln:
+	@$(MAKE) --no-print-directory program NAME=kiln
+	@crates/kiln/out/kiln
+
+# proves and builds the program NAME, where it is not built from what stands
+program:
 	@mkdir -p target
-	@rt check kiln > target/run.log 2>&1 || { cat target/run.log; exit 1; }
-	@target/bin/kiln
+	@cd crates/$(NAME) && rt run < /dev/null > ../../target/run.log 2>&1 || { cat ../../target/run.log; exit 1; }
 
 test:
 	.ci/run
@@ -26,4 +29,4 @@ reference:
 	@cd reference && cargo build --release --offline --quiet
 
 compare: reference
-	@reference/target/release/compare --seed $(SEED) --count $(COUNT) --loops target/bin/loops --locks target/bin/locks --keep target/compare
+	@reference/target/release/compare --seed $(SEED) --count $(COUNT) --loops crates/loops/out/loops --locks crates/locks/out/locks --keep target/compare

@@ -1,18 +1,9 @@
 //! What a solve gives out and a settle takes.
 ghost use Rattle.std.specs.Prelude.{◌≡◌};
 
-/// An open scan. It has to be settled: nobody may let a token go.
+/// An open scan. It has to be settled: it is not `Drop`, so nobody may let a token go.
 pub struct ScanToken {
     pub(crate) number: u32,
-}
-
-impl Drop for ScanToken {
-    // Nobody can reach this.
-    fn drop(self)
-        requires { ⊥ }
-    {
-        let ScanToken { number: _ } = self;
-    }
 }
 
 impl ScanToken {
@@ -23,7 +14,7 @@ impl ScanToken {
         self.number
     }
 
-    // Takes the token apart, so that its `drop` does not run.
+    // Takes the token apart, which is the one way to be rid of it.
     pub(crate) fn spend(self) {
         let ScanToken { number: _ } = self;
     }
