@@ -6,7 +6,7 @@ use Rattle.diagram.specs.Calls.{Call, Answer, ok, refused, Event}
 use Rattle.diagram.specs.Chart.{first}
 use Rattle.diagram.specs.Made.{Made}
 use Rattle.diagram.specs.View.{Lent, world}
-use Rattle.session.specs.Begun.{Session}
+use Rattle.session.specs.Begun.{LentSession}
 use Rattle.loop_file.specs.declared.outcome.Outcome.{Outcome}
 use Rattle.loop_file.specs.declared.outcome.Outcome.TheVariants.{Ended, Stopped}
 use Rattle.loop_file.specs.Lines.{Says}
@@ -88,4 +88,4 @@ module _ {F R S : Type 0} (m : Meaning R S) where
   pub record Ran (lines : List (List ℕ)) (x : Desk F R S) (outcome : Outcome) (y : Desk F R S) : Type 0 where
     pub events : List (Event S)
     pub run : RunOf lines x events outcome y
-    pub counts : (es : List (Event S)) → Session m es (world m x.lent) → Session m (events ++ es) (world m y.lent)
+    pub counts : (es : List (Event S)) → LentSession m es (world m x.lent) → LentSession m (events ++ es) (world m y.lent)

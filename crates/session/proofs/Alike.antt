@@ -7,7 +7,7 @@ use Rattle.diagram.specs.Chart.{Chart, names, empty}
 use Rattle.diagram.specs.World.{World, Does}
 use Rattle.session.specs.Plan.{planned, plan, Wake}
 use Rattle.session.specs.Law.{others}
-use Rattle.session.specs.Begun.{Long, Session, start, then, Confinement}
+use Rattle.session.specs.Begun.{Long, LentSession, start, then, LentConfinement}
 use Rattle.session.proofs.Steps.{coherent}
 use Rattle.session.proofs.Solving.{stands}
 use Rattle.session.proofs.Wakes.{Twin, both, stir_left, stir_right}
@@ -44,22 +44,22 @@ module _ {R S : Type 0} (m : Meaning R S) (lawful : Lawful m) (h : ℕ) where
   }
 
   -- an edit of h in the second session alone
-  right : (es fs : List (Event S)) (w v v' : World R S) (f : Event S) → Session m es w → Session m fs v → Does m f.call v f.answer v' → stirs h f.call ≡ true → Twins es w fs v → Twins es w (f ∷ fs) v'
+  right : (es fs : List (Event S)) (w v v' : World R S) (f : Event S) → LentSession m es w → LentSession m fs v → Does m f.call v f.answer v' → stirs h f.call ≡ true → Twins es w fs v → Twins es w (f ∷ fs) v'
   right es fs w v v' f s t does mine twin =
       stir_right m lawful h (plan m es) (plan m fs) (Wake m h es) w v (coherent m lawful es w s) (coherent m lawful fs v t) twin f.call f.answer v' f.signals mine does
 
   -- a second session with edits of h alone
-  drain : (w : World R S) (e : w.chart ≡ empty) (l : Long w.records) (fs : List (Event S)) (v : World R S) → Session m fs v → others h fs ≡ [] → Twins [] w fs v
+  drain : (w : World R S) (e : w.chart ≡ empty) (l : Long w.records) (fs : List (Event S)) (v : World R S) → LentSession m fs v → others h fs ≡ [] → Twins [] w fs v
   drain w e l fs v (start f k) none = fresh_both w v e f
   drain w e l fs v' (then {w = v} {es = gs} f t does same) none = elim (cases_Bool (stirs h f.call)) [
     | inl mine ↦ right [] gs w v v' f (start e l) t does mine (drain w e l gs v t (sym (mine_out h f gs mine) ∙ none))
     | inr not_mine ↦ absurd (no_cons f.call (others h gs) (sym (other_in h f gs not_mine) ∙ none))
   ]
 
-  module _ (es : List (Event S)) (w w' : World R S) (e : Event S) (s : Session m es w) (does : Does m e.call w e.answer w') (whole : Session m (e ∷ es) w')
-      (rec : (fs : List (Event S)) (v : World R S) → Session m fs v → others h es ≡ others h fs → Twins es w fs v) where
+  module _ (es : List (Event S)) (w w' : World R S) (e : Event S) (s : LentSession m es w) (does : Does m e.call w e.answer w') (whole : LentSession m (e ∷ es) w')
+      (rec : (fs : List (Event S)) (v : World R S) → LentSession m fs v → others h es ≡ others h fs → Twins es w fs v) where
     -- one more call of both
-    meet : (fs : List (Event S)) (v : World R S) → Session m fs v → e.call ∷ others h es ≡ others h fs → Twins (e ∷ es) w' fs v
+    meet : (fs : List (Event S)) (v : World R S) → LentSession m fs v → e.call ∷ others h es ≡ others h fs → Twins (e ∷ es) w' fs v
     meet fs v (start f k) same = absurd (no_cons e.call (others h es) same)
     meet fs v' (then {w = v} {es = gs} f t does' sig) same = elim (cases_Bool (stirs h f.call)) [
       | inl mine ↦ right (e ∷ es) gs w' v v' f whole t does' mine (meet gs v t (same ∙ mine_out h f gs mine))
@@ -73,19 +73,19 @@ module _ {R S : Type 0} (m : Meaning R S) (lawful : Lawful m) (h : ℕ) where
     ]
 
     -- an edit of h in the first session alone
-    left : stirs h e.call ≡ true → (fs : List (Event S)) (v : World R S) → Session m fs v → others h es ≡ others h fs → Twins (e ∷ es) w' fs v
+    left : stirs h e.call ≡ true → (fs : List (Event S)) (v : World R S) → LentSession m fs v → others h es ≡ others h fs → Twins (e ∷ es) w' fs v
     left mine fs v t same =
         stir_left m lawful h (plan m es) (plan m fs) (Wake m h es) w v (coherent m lawful es w s) (coherent m lawful fs v t) (rec fs v t same) e.call e.answer w' e.signals mine does
 
   -- along both
-  pub twins : (es : List (Event S)) (w : World R S) → Session m es w → (fs : List (Event S)) (v : World R S) → Session m fs v → others h es ≡ others h fs → Twins es w fs v
+  pub twins : (es : List (Event S)) (w : World R S) → LentSession m es w → (fs : List (Event S)) (v : World R S) → LentSession m fs v → others h es ≡ others h fs → Twins es w fs v
   twins es w (start e l) fs v t same = drain w e l fs v t (sym same)
   twins es w' (then {w} {es = gs} e s does sig) fs v t same = elim (cases_Bool (stirs h e.call)) [
     | inl mine ↦ left gs w w' e s does (then e s does sig) (λ fs v t same. twins gs w s fs v t same) mine fs v t (sym (mine_out h e gs mine) ∙ same)
     | inr not_mine ↦ meet gs w w' e s does (then e s does sig) (λ fs v t same. twins gs w s fs v t same) fs v t (sym (other_in h e gs not_mine) ∙ same)
   ]
 
-pub confinement : {R S : Type 0} (m : Meaning R S) → Lawful m → Confinement m
+pub confinement : {R S : Type 0} (m : Meaning R S) → Lawful m → LentConfinement m
 confinement m lawful h es fs w v s t same k r block out =
     let twin = twins m lawful h es w s fs v t same in
     (sym (twin.blocks k out) ∙ block, twin.signals k (stands m (plan m es) w (coherent m lawful es w s) k r block).0 out)

@@ -66,12 +66,12 @@ module _ {R S : Type 0} (m : Meaning R S) where
   ]
 
   -- a session is a session
-  session : {es : List (Event S)} {w : long.World R S} → law.Session m es w → begun.Session m es (bare w)
+  session : {es : List (Event S)} {w : long.World R S} → law.Session m es w → begun.LentSession m es (bare w)
   session (law.start {w = w} e) = begun.start e w.long
   session (law.then {w = w} {v = v} e s d t) = begun.then e (session s) (by_bare (first (checks m e.call w.chart)) (lent.refusing m e.call w.records) e.call w v e.answer d) t
 
   -- the law
-  pub longer : begun.SessionLaw m → law.SessionLaw m
+  pub longer : begun.LentLaw m → law.SessionLaw m
   longer k = record {
     rings = λ es e w s. k.rings es e (bare w) (session s);
     solution = λ es e w s. k.solution es e (bare w) (session s);

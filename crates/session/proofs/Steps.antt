@@ -15,7 +15,7 @@ use Rattle.slots.specs.Ledger.{free_of}
 use Rattle.diagram.specs.Chart.{slot, handle, names, empty, free, charted, given, when, first, is_scan, checks}
 use Rattle.diagram.specs.World.{World, look, refusing, recorded, signalled, Accepted, Closes, Refused, By, Does}
 use Rattle.session.specs.Plan.{Plan, grown, planned, plan}
-use Rattle.session.specs.Begun.{Long, Session, start, then}
+use Rattle.session.specs.Begun.{Long, LentSession, start, then}
 use Rattle.session.proofs.Base.{none_some, some_same, first_none, check_none, slot_small, slot_handle, named}
 use Rattle.session.proofs.Coherent.{Coherent, placed_blocks, placed_wires, placed_agrees, removed_blocks, removed_wires, removed_agrees, sourced_wires, edited_blocks, edited_agrees, settled_blocks, settled_agrees, carried_same, long_put, long_some, some_still}
 
@@ -196,6 +196,6 @@ module _ {R S : Type 0} (m : Meaning R S) (lawful : Lawful m) where
       (record { blocks = λ h. refl; wires = λ h p. refl; opened = refl; solved = λ z h. absurd (both_ways false refl z); agrees = λ s r on is. absurd (both_ways false refl on); long = long })
 
   -- the plan of a session says what its diagram says
-  pub coherent : (es : List (Event S)) (w : World R S) → Session m es w → Coherent m (plan m es) w.chart w.records w.signals
+  pub coherent : (es : List (Event S)) (w : World R S) → LentSession m es w → Coherent m (plan m es) w.chart w.records w.signals
   coherent es w (start e long) = started w e long
   coherent es v (then {w} {es = fs} e s does same) = steps m lawful w (plan m fs) (coherent fs w s) e.call e.answer v e.signals does same
