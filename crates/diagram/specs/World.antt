@@ -1,4 +1,4 @@
--- A diagram with its ranks and its two rows, and what each call does to them.
+-- A diagram with its ranks and two rows of any length, and what each call does to them.
 use Rattle.std.specs.Prelude.{◌≡◌, ℕ, ◌<◌, true, false, ◌⊎◌, List, length, Some, None, Option, slice_index}
 use Rattle.family.specs.Meaning.{Meaning}
 use Rattle.wiring.specs.Ring.{HasRing}

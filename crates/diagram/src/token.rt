@@ -1,9 +1,18 @@
 //! What a solve gives out and a settle takes.
 ghost use Rattle.std.specs.Prelude.{◌≡◌};
 
-/// An open scan. It has to be settled: it is not `Drop`, so nobody may let a token go.
+/// An open scan. It has to be settled: only a token of number 0 may be let go, and no scan has that number.
 pub struct ScanToken {
     pub(crate) number: u32,
+}
+
+impl Drop for ScanToken {
+    // No caller has a token of which it can show this.
+    fn drop(self)
+        requires { self.number ≡ 0 }
+    {
+        let ScanToken { number: _ } = self;
+    }
 }
 
 impl ScanToken {
@@ -14,7 +23,7 @@ impl ScanToken {
         self.number
     }
 
-    // Takes the token apart, which is the one way to be rid of it.
+    // Takes the token apart, so that its `drop` does not run.
     pub(crate) fn spend(self) {
         let ScanToken { number: _ } = self;
     }

@@ -1,4 +1,4 @@
--- A block keeps its kind, and so its ports: the next, the fed and the acceptably tuned record count as the same kind.
+-- A block has at most three ports, and keeps its kind and so its ports: the next, the fed and the acceptably tuned record count as the same kind.
 use Rattle.std.specs.Prelude.{◌≡◌, ℕ, ◌≤◌, Bool, true, false, cond, not, ℤ, pos, ◌+ℤ◌, is_some, None, Option, refl}
 use Rattle.std.proofs.Common.{ap, arith, rules}
 use Rattle.std.proofs.lemmas.Int.{ints}

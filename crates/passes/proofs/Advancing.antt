@@ -47,7 +47,7 @@ module _ {R S : Type 0} (m : Meaning R S) (l : Layout) (signals : List S) (befor
       → ((k j : ℕ) → k < j → j < length l.order → get_or l.order k 0 ≡ get_or l.order j 0 → ⊥)
       → slice_get cur slot ≡ Some r → q ≡ brought slot r → Advancing cur i → Advancing (set cur slot q) (i + 1)
   advance_more cur i slot r q at low within apart held is was =
-      let fresh : member (take i l.order) slot ≡ false = not_before l.order i slot (λ k less in_List e. apart k i less low (e ∙ at)) in
+      let fresh : member (take i l.order) slot ≡ false = not_before l.order i slot (λ k less in_list e. apart k i less low (e ∙ at)) in
       let old : slice_get before slot ≡ Some r = sym (was.records slot ∙ cond-false (member (take i l.order) slot) _ (slice_get before slot) fresh) ∙ held in
       record {
         size = length-set cur slot q ∙ was.size;

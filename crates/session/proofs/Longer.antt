@@ -1,4 +1,4 @@
--- A session on rows of at least 256 entries all along is a session, so the law of all sessions is a law of those.
+-- A session on rows that are long by their type is a session on lent rows, so the law of these is the law of those.
 use Rattle.std.proofs.Common.{◌≡◌, ℕ, List, Some, None, Option, refl, ap, ◌∙◌, inl, inr}
 use Rattle.family.specs.Meaning.{Meaning}
 use Rattle.refusal.specs.declared.refusals.Refusal.{Refusal}
@@ -35,7 +35,7 @@ module _ {R S : Type 0} (m : Meaning R S) where
   signalled_same solve w = refl
   signalled_same (settle n) w = refl
 
-  -- a call that closes a ring closes it
+  -- a call that closes a ring on long rows closes it on lent ones
   closes : (c : Call) (w : long.World R S) → long.Closes m c w → lent.Closes m c (bare w)
   closes (place kind x) w r = r
   closes (remove h) w r = r
@@ -45,11 +45,11 @@ module _ {R S : Type 0} (m : Meaning R S) where
   closes solve w r = r
   closes (settle n) w r = r
 
-  -- a refused call is refused
+  -- a call that is refused on long rows is refused on lent ones
   refused_bare : (r : Refusal) (w v : long.World R S) (a : Answer) → long.Refused m r w a v → lent.Refused m r (bare w) a (bare v)
   refused_bare r w v a k = record { answer = k.answer; same = ap bare k.same }
 
-  -- what a call does it does
+  -- what a call does to long rows it does to lent ones
   by_bare : (o l : Option Refusal) (c : Call) (w v : long.World R S) (a : Answer) → long.By m o l c w a v → lent.By m o l c (bare w) a (bare v)
   by_bare (Some r) l c w v a k = refused_bare r w v a k
   by_bare None (Some r) c w v a k = refused_bare r w v a k
@@ -65,12 +65,12 @@ module _ {R S : Type 0} (m : Meaning R S) where
         })
   ]
 
-  -- a session is a session
+  -- a session on long rows is one on lent rows
   session : {es : List (Event S)} {w : long.World R S} → law.Session m es w → begun.LentSession m es (bare w)
   session (law.start {w = w} e) = begun.start e w.long
   session (law.then {w = w} {v = v} e s d t) = begun.then e (session s) (by_bare (first (checks m e.call w.chart)) (lent.refusing m e.call w.records) e.call w v e.answer d) t
 
-  -- the law
+  -- so the law of these is the law of those
   pub longer : begun.LentLaw m → law.SessionLaw m
   longer k = record {
     rings = λ es e w s. k.rings es e (bare w) (session s);

@@ -1,4 +1,4 @@
--- Rings: wires that ascend have none, and a wire from what its target reaches closes one.
+-- Rings: wires that ascend have none, a wire from what its target reaches closes one, and a ring goes over where each wire does.
 use Rattle.std.proofs.Common.{◌≡◌, ℕ, ◌<◌, ◌⊎◌, List, [], ◌∷◌, ◌++◌, refl, subst, inl, inr, arith}
 use Rattle.wiring.specs.Reach.{Reaches, here, step}
 use Rattle.wiring.specs.Ring.{Chain, IsRing, HasRing}
