@@ -1,22 +1,15 @@
 -- The lowest slot of a name, and names that are not there.
-use Rattle.std.proofs.Common.{◌≡◌, ℕ, zero, suc, ◌≤◌, Bool, cond, List, [], get_or, replicate, Some, None, Option, refl, ap, ◌∙◌, subst, inl, inr, arith}
+use Rattle.std.proofs.Common.{◌≡◌, ℕ, zero, suc, ◌≤◌, Bool, cond, [], get_or, replicate, Some, None, Option, refl, ap, ◌∙◌, subst, inl, inr, arith}
 use Rattle.std.proofs.lemmas.List.{get_or-replicate, get_or_past, length-replicate}
 use Rattle.std.proofs.lemmas.Bool.{cases_lt, cases_eq}
 use Rattle.runner.specs.declared.names.Entry.{Entry}
-use Rattle.passes.specs.Rows.{on_some}
-use Rattle.diagram.specs.Chart.{Chart}
-use Rattle.runner.specs.Book.{Book, either, lowest, in_use, found}
+use Rattle.runner.specs.Book.{either, lowest}
 use Rattle.runner.specs.View.{name_in, blank}
 
 -- below 0 there is none
 pub lowest_none : (p : ℕ → Bool) → lowest p 0 ≡ None
 unfolding lowest
 lowest_none p = refl
-
--- what a name stands for
-pub found_is : (c : Chart) (b : Book) (n : List ℕ) → found c b n ≡ on_some b.handle (lowest (in_use c b n) 256)
-unfolding found
-found_is c b n = refl
 
 -- where none is below k, the lowest one below k + 1 is k, if it is one
 pub lowest_at : (p : ℕ → Bool) (k : ℕ) → lowest p k ≡ None → lowest p (suc k) ≡ cond (p k) (Some k) None

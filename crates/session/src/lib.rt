@@ -28,12 +28,12 @@ pub fn fresh<F: Family>() -> Diagram<F>
 pub fn fresh_loops() -> Diagram<Loops>
     ensures { Begun loops result }
 {
-    fresh()
+    fresh::<Loops>()
 }
 
 /// A fresh diagram of interlocks.
 pub fn fresh_interlocks() -> Diagram<Interlocks>
     ensures { Begun interlocks result }
 {
-    fresh()
+    fresh::<Interlocks>()
 }

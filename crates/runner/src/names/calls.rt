@@ -1,10 +1,10 @@
 //! Finding names and keeping them.
-ghost use Rattle.std.specs.Prelude.{◌≡◌, ℕ, ◌%◌, ◌<◌, ◌≤◌, true, [], length, Some};
+ghost use Rattle.std.specs.Prelude.{◌≡◌, ℕ, ◌%◌, ◌<◌, ◌≤◌, true, [], length, Some, IfSome};
 ghost use Rattle.std.specs.Str.{bytes_eq};
 ghost use Rattle.passes.specs.Rows.{put};
 ghost use Rattle.diagram.specs.Chart.{names};
 ghost use Rattle.diagram.specs.View.{chart};
-ghost use Rattle.runner.specs.Book.{in_use, found};
+ghost use Rattle.runner.specs.Book.{in_use, lowest, found};
 ghost use Rattle.runner.specs.View.{name_in, book};
 
 use crate::names::{Entry, Names};
@@ -40,19 +40,40 @@ impl Names {
     pub fn empty() -> Names
         ensures { (s : ℕ) → ((book result).name s ≡ []) × ((book result).handle s ≡ 0) }
     {
+        Names::of_blank(Entry::of(&[], 0))
+    }
+
+    // An entry with no name, at each slot.
+    fn of_blank(entry: Entry) -> Names
+        requires name { name_in entry ≡ [] }
+        requires handle { entry.handle ≡ 0 }
+        ensures { (s : ℕ) → ((book result).name s ≡ []) × ((book result).handle s ≡ 0) }
+    {
         Names {
-            entries: [Entry::of(&[], 0); 256],
+            entries: [entry; 256],
         }
     }
 
     /// The handle of the placed block of this name.
+    #[tactic(auto, unfolding(crate::specs::Book::found))]
     pub fn find<F: Family>(&self, diagram: &Diagram<F>, name: &[u8]) -> Option<u32>
         ensures found { result ≡ found (chart diagram.now) (book self.now) name.now }
         ensures placed { (h : ℕ) → result ≡ Some h → names (chart diagram.now) h ≡ true }
     {
+        match self.lowest(diagram, name) {
+            Some(slot) => Some(self.handle_at(slot)),
+            None => None,
+        }
+    }
+
+    // The lowest slot with this name in use.
+    fn lowest<F: Family>(&self, diagram: &Diagram<F>, name: &[u8]) -> Option<usize>
+        ensures slot { result ≡ lowest (in_use (chart diagram.now) (book self.now) name.now) 256 }
+        ensures used { IfSome result (λ s. (s < 256) × (in_use (chart diagram.now) (book self.now) name.now s ≡ true)) }
+    {
         for slot in 0..256 {
             if self.in_use(diagram, name, slot) {
-                return Some(self.handle_at(slot));
+                return Some(slot);
             }
         }
         None
