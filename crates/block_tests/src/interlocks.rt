@@ -1,3 +1,4 @@
+use crate::shared::judges;
 use family::{Family, Inputs, Params};
 use interlock_blocks::{InterlockRecord, Interlocks};
 
@@ -103,9 +104,7 @@ fn parameters(rt: HostRuntime) {
         (TIMER, 0, 0, 0, Some(0)),
         (TIMER, 1_000_001, 0, 0, Some(0)),
     ];
-    for (code, p, q, r, bad) in table {
-        assert_eq!(rt; Interlocks::bad(code, Params { p, q, r }), bad);
-    }
+    judges::<Interlocks>(&rt, &table);
 }
 
 #[test]

@@ -5,3 +5,5 @@
 mod interlocks;
 #[cfg(test)]
 mod loops;
+#[cfg(test)]
+mod shared;

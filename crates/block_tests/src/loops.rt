@@ -1,3 +1,4 @@
+use crate::shared::judges;
 use family::{Family, Inputs, Params};
 use loop_blocks::{LoopRecord, Loops};
 use std::process::Abort;
@@ -68,13 +69,12 @@ fn controllers(rt: HostRuntime) {
 fn tracking(rt: HostRuntime) {
     let mut k = block(PIDT, 0, 1000, 0);
     let limit = block(LIM, -100, 100, 0);
-    let asked = [500, 500, -500];
-    let given = [500, 600, -400];
-    for i in 0..3 {
-        let y = Loops::output(k, inputs(asked[i], 0, 0));
-        assert_eq!(rt; y, given[i]);
+    let table = [(500, 500), (500, 600), (-500, -400)];
+    for (asked, given) in table {
+        let y = Loops::output(k, inputs(asked, 0, 0));
+        assert_eq!(rt; y, given);
         let c = Loops::output(limit, inputs(y, 0, 0));
-        k = Loops::next(k, inputs(asked[i], 0, c));
+        k = Loops::next(k, inputs(asked, 0, c));
     }
 }
 
@@ -148,9 +148,7 @@ fn parameters(rt: HostRuntime) {
         (GAIN, 100_000, 0, 0, None),
         (GAIN, 100_001, 0, 0, Some(0)),
     ];
-    for (code, p, q, r, bad) in table {
-        assert_eq!(rt; Loops::bad(code, Params { p, q, r }), bad);
-    }
+    judges::<Loops>(&rt, &table);
 }
 
 #[test]

@@ -1,4 +1,4 @@
 pub mod Params
-pub mod Counts
 pub mod Laws
 pub mod Meaning
+pub mod Rules

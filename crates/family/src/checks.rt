@@ -16,7 +16,7 @@ pub fn is_within(z: i32, n: u32) -> bool
 pub fn is_among(low: i32, z: i32, high: i32) -> bool
     ensures { result ≡ among low z high }
 {
-    (low <= z) & (z <= high)
+    (low..=high).contains(&z)
 }
 
 /// The number of the first of three parameters whose test failed.
@@ -42,12 +42,5 @@ pub fn bad_but(p: bool, params: Params) -> Option<u8>
 pub fn is_word(text: &[u8], word: &[u8]) -> bool
     ensures { result ≡ bytes_eq text.now word.now }
 {
-    same(text, word)
-}
-
-// Whether two texts are the same bytes.
-fn same(s: &[u8], t: &[u8]) -> bool
-    ensures { result ≡ bytes_eq s.now t.now }
-{
-    s == t
+    text == word
 }

@@ -2,9 +2,13 @@
 #![tactic(auto)]
 
 mod checks;
+mod counted;
 mod interface;
+mod kinds;
 mod values;
 
 pub use checks::{bad_but, first_bad, is_among, is_within, is_word};
+pub use counted::Counted;
 pub use interface::Family;
+pub use kinds::BlockKind;
 pub use values::{Inputs, Params};

@@ -1,5 +1,3 @@
 pub mod Kinds
-pub mod Counts
 pub mod Interlocks
-pub mod Kept
-pub mod Lateness
+pub mod Laws

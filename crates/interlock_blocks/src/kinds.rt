@@ -1,60 +1,54 @@
-//! The kinds by code and word, and what each asks of its parameters.
-ghost use Rattle.std.specs.Prelude.{◌≡◌};
-ghost use Rattle.interlock_blocks.specs.Kinds.{kind_of, code_of, ports_of, late_of, takes_of, bad_of};
-ghost use Rattle.interlock_blocks.specs.Interlocks.{bad_for, start_of};
+//! The kinds by code and word, what each asks of its parameters and its state, and their record.
+ghost use Rattle.interlock_blocks.specs.Interlocks.{kinds};
+ghost use Rattle.interlock_blocks.specs.Laws.{lawful as kinds_lawful};
 
-use crate::record::Kind;
-use family::{Params, bad_but, is_among, is_within, is_word};
+use crate::record::{InterlockRecord, Kind};
+use family::{BlockKind, Params, bad_but, is_among, is_within};
 
-// The kind of a code.
-pub(crate) fn kind_of(code: u8) -> Option<Kind>
-    ensures { result ≡ kind_of code }
-{
-    match code {
-        1 => Some(Kind::In),
-        2 => Some(Kind::And),
-        3 => Some(Kind::Or),
-        4 => Some(Kind::Not),
-        5 => Some(Kind::Latch),
-        6 => Some(Kind::Hold),
-        7 => Some(Kind::Timer),
-        _ => None,
-    }
-}
+impl BlockKind for Kind {
+    type Record = InterlockRecord;
 
-// The code of the kind that a word names.
-pub(crate) fn code_of(text: &[u8]) -> Option<u8>
-    ensures { result ≡ code_of text.now }
-{
-    if is_word(text, b"in") {
-        return Some(1);
-    }
-    if is_word(text, b"and") {
-        return Some(2);
-    }
-    if is_word(text, b"or") {
-        return Some(3);
-    }
-    if is_word(text, b"not") {
-        return Some(4);
-    }
-    if is_word(text, b"latch") {
-        return Some(5);
-    }
-    if is_word(text, b"hold") {
-        return Some(6);
-    }
-    if is_word(text, b"timer") {
-        return Some(7);
-    }
-    None
-}
+    type Signal = bool;
 
-impl Kind {
-    // How many ports the kind has.
-    pub(crate) fn ports(self) -> u8
-        ensures { result ≡ ports_of self }
-    {
+    ghost rules = { kinds };
+
+    ghost lawful = { kinds_lawful };
+
+    fn named(text: &[u8]) -> Option<Kind> {
+        match text {
+            b"in" => Some(Kind::In),
+            b"and" => Some(Kind::And),
+            b"or" => Some(Kind::Or),
+            b"not" => Some(Kind::Not),
+            b"latch" => Some(Kind::Latch),
+            b"hold" => Some(Kind::Hold),
+            b"timer" => Some(Kind::Timer),
+            _ => None,
+        }
+    }
+
+    fn of_code(code: u8) -> Option<Kind> {
+        match code {
+            1 => Some(Kind::In),
+            2 => Some(Kind::And),
+            3 => Some(Kind::Or),
+            4 => Some(Kind::Not),
+            5 => Some(Kind::Latch),
+            6 => Some(Kind::Hold),
+            7 => Some(Kind::Timer),
+            _ => None,
+        }
+    }
+
+    fn code(self) -> u8 {
+        self as u8
+    }
+
+    fn plain() -> Kind {
+        Kind::In
+    }
+
+    fn ports(self) -> u8 {
         match self {
             Kind::In => 0,
             Kind::Not | Kind::Hold | Kind::Timer => 1,
@@ -62,54 +56,55 @@ impl Kind {
         }
     }
 
-    // Whether a port is late.
-    pub(crate) fn late(self, port: u8) -> bool
-        ensures { result ≡ late_of self port }
-    {
-        match self {
-            Kind::Hold => port == 0,
-            _ => false,
-        }
+    fn late(self, port: u8) -> bool {
+        (self == Kind::Hold) & (port == 0)
     }
 
-    // Whether the kind takes feeds.
-    pub(crate) fn takes(self) -> bool
-        ensures { result ≡ takes_of self }
-    {
-        match self {
-            Kind::In => true,
-            _ => false,
-        }
+    fn takes(self) -> bool {
+        self == Kind::In
     }
 
-    // The first parameter that the kind does not accept.
-    pub(crate) fn bad(self, x: Params) -> Option<u8>
-        ensures { result ≡ bad_of self x }
-    {
+    fn told(n: i32) -> i32 {
+        i32::from(n != 0)
+    }
+
+    fn starts(self) -> bool {
+        matches!(self, Kind::In | Kind::Hold)
+    }
+
+    fn bad(self, x: Params) -> Option<u8> {
         match self {
             Kind::In | Kind::Hold => bad_but(is_among(0, x.p, 1), x),
             Kind::Timer => bad_but(is_among(1, x.p, 1_000_000), x),
             Kind::And | Kind::Or | Kind::Not | Kind::Latch => bad_but(is_within(x.p, 0), x),
         }
     }
-}
 
-// The first parameter that the kind of a code does not accept.
-pub(crate) fn bad_for(code: u8, x: Params) -> Option<u8>
-    ensures { result ≡ bad_for (kind_of code) x }
-{
-    match kind_of(code) {
-        Some(kind) => kind.bad(x),
-        None => None,
+    fn holds(self, k: InterlockRecord) -> bool {
+        match self {
+            Kind::In | Kind::Latch | Kind::Hold => is_among(0, k.u, 1),
+            Kind::And | Kind::Or | Kind::Not => is_among(0, k.u, 0),
+            Kind::Timer => is_among(0, k.u, 1_000_000),
+        }
     }
-}
 
-// The state that a block of the kind of a code starts with.
-pub(crate) fn start_for(code: u8, x: Params) -> i32
-    ensures { result ≡ start_of (kind_of code) x }
-{
-    match kind_of(code) {
-        Some(Kind::In) | Some(Kind::Hold) => x.p,
-        _ => 0,
+    fn made(code: u8, params: Params, u: i32) -> InterlockRecord {
+        InterlockRecord { code, params, u }
+    }
+
+    fn code_in(k: InterlockRecord) -> u8 {
+        k.code
+    }
+
+    fn params_in(k: InterlockRecord) -> Params {
+        k.params
+    }
+
+    fn retuned(k: InterlockRecord, params: Params) -> InterlockRecord {
+        InterlockRecord { params, ..k }
+    }
+
+    fn with_u(k: InterlockRecord, u: i32) -> InterlockRecord {
+        InterlockRecord { u, ..k }
     }
 }

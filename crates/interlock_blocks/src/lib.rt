@@ -1,22 +1,20 @@
 //! The family of interlock blocks: true and false.
 #![tactic(auto)]
 
-ghost use Rattle.std.specs.Prelude.{◌≡◌, false};
-ghost use Rattle.interlock_blocks.specs.Kinds.{code_of};
-ghost use Rattle.interlock_blocks.specs.Interlocks.{bit, exists as is_kind, bad as bad_of, fresh as fresh_of, ports as ports_of, late as late_of, takes as takes_of, fed as fed_of, unfit as unfit_of, tuned as tuned_of, output as output_of, next as next_of};
-ghost use Rattle.interlock_blocks.specs.Kept.{kind_law as kinds_kept, at_most_three};
-ghost use Rattle.interlock_blocks.specs.Lateness.{late_law};
+ghost use Rattle.std.specs.Prelude.{◌≡◌};
+ghost use Rattle.interlock_blocks.specs.Interlocks.{interlocks};
+ghost use Rattle.interlock_blocks.specs.Laws.{kind_law as kinds_kept, at_most_three, late_law};
 
 mod blocks;
-mod counted;
 mod kinds;
 mod record;
 
-use blocks::to_bit;
-use counted::read;
-use family::{Family, Inputs, Params};
-use kinds::{bad_for, code_of, kind_of, start_for};
+use family::{BlockKind, Counted, Family, Inputs, Params};
 pub use record::InterlockRecord;
+use record::Kind;
+
+// A record as it counts.
+type Block = Counted<Kind>;
 
 /// The interlocks. A signal is true or false; false is the signal at rest.
 pub struct Interlocks;
@@ -26,33 +24,33 @@ impl Family for Interlocks {
 
     type Signal = bool;
 
-    ghost word = { code_of };
+    ghost word = { interlocks.word };
 
-    ghost exists = { is_kind };
+    ghost exists = { interlocks.exists };
 
-    ghost bad = { bad_of };
+    ghost bad = { interlocks.bad };
 
-    ghost fresh = { fresh_of };
+    ghost fresh = { interlocks.fresh };
 
-    ghost ports = { ports_of };
+    ghost ports = { interlocks.ports };
 
-    ghost late = { late_of };
+    ghost late = { interlocks.late };
 
-    ghost takes = { takes_of };
+    ghost takes = { interlocks.takes };
 
-    ghost fed = { fed_of };
+    ghost fed = { interlocks.fed };
 
-    ghost unfit = { unfit_of };
+    ghost unfit = { interlocks.unfit };
 
-    ghost tuned = { tuned_of };
+    ghost tuned = { interlocks.tuned };
 
-    ghost output = { output_of };
+    ghost output = { interlocks.output };
 
-    ghost next = { next_of };
+    ghost next = { interlocks.next };
 
-    ghost number = { bit };
+    ghost number = { interlocks.number };
 
-    ghost rest = { false };
+    ghost rest = { interlocks.rest };
 
     ghost few = { at_most_three };
 
@@ -61,63 +59,59 @@ impl Family for Interlocks {
     ghost kind = { kinds_kept };
 
     fn word(text: &[u8]) -> Option<u8> {
-        code_of(text)
+        Kind::named(text).map(Kind::code)
     }
 
     fn exists(kind: u8) -> bool {
-        kind_of(kind).is_some()
+        Kind::of_code(kind).is_some()
     }
 
     fn bad(kind: u8, params: Params) -> Option<u8> {
-        bad_for(kind, params)
+        Kind::bad_for(kind, params)
     }
 
     fn fresh(kind: u8, params: Params) -> InterlockRecord {
-        InterlockRecord {
-            code: kind,
-            params,
-            u: start_for(kind, params),
-        }
+        Kind::fresh(kind, params)
     }
 
     fn ports(block: InterlockRecord) -> u8 {
-        read(block).kind.ports()
+        Block::read(block).kind.ports()
     }
 
     fn late(block: InterlockRecord, port: u8) -> bool {
-        read(block).kind.late(port)
+        Block::read(block).kind.late(port)
     }
 
     fn takes(block: InterlockRecord) -> bool {
-        read(block).kind.takes()
+        Block::read(block).kind.takes()
     }
 
     fn fed(block: InterlockRecord, n: i32) -> InterlockRecord {
-        read(block).fed(n)
+        Block::read(block).fed(n)
     }
 
     fn unfit(block: InterlockRecord, params: Params) -> Option<u8> {
-        read(block).kind.bad(params)
+        Block::read(block).kind.bad(params)
     }
 
     fn tuned(block: InterlockRecord, params: Params) -> InterlockRecord {
-        read(block).tuned(params)
+        Block::read(block).tuned(params)
     }
 
     fn output(block: InterlockRecord, inputs: Inputs<bool>) -> bool
-        ensures { result ≡ output_of block inputs }
+        ensures { result ≡ interlocks.output block inputs }
     {
-        read(block).output(inputs)
+        blocks::output(Block::read(block), inputs)
     }
 
     fn next(block: InterlockRecord, inputs: Inputs<bool>) -> InterlockRecord
-        ensures { result ≡ next_of block inputs }
+        ensures { result ≡ interlocks.next block inputs }
     {
-        read(block).next(inputs)
+        blocks::next(Block::read(block), inputs)
     }
 
     fn number(signal: bool) -> i32 {
-        to_bit(signal)
+        i32::from(signal)
     }
 
     fn rest() -> bool {

@@ -9,14 +9,14 @@ pub struct InterlockRecord {
     pub u: i32,
 }
 
-// The kinds of interlock blocks.
-#[derive(Clone, Copy, Drop)]
+// The kinds of interlock blocks, each with its code.
+#[derive(Clone, Copy, PartialEq, Eq, Debug, Drop)]
 pub(crate) enum Kind {
-    In,
-    And,
-    Or,
-    Not,
-    Latch,
-    Hold,
-    Timer,
+    In = 1,
+    And = 2,
+    Or = 3,
+    Not = 4,
+    Latch = 5,
+    Hold = 6,
+    Timer = 7,
 }

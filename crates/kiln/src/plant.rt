@@ -1,7 +1,6 @@
 //! A closed loop and an interlock, stepped through their families' functions.
-ghost use Rattle.std.specs.Prelude.{◌≡◌, int_le};
-ghost use Rattle.interlock_blocks.specs.Interlocks.{bit, fed};
-ghost use Rattle.kiln.specs.Plant.{Solved, Settled, Moved, lit, numbers, switch};
+ghost use Rattle.std.specs.Prelude.{◌≡◌};
+ghost use Rattle.kiln.specs.Plant.{Solved, Settled, Moved, lit};
 
 use family::{Family, Inputs};
 use interlock_blocks::{InterlockRecord, Interlocks};
@@ -32,33 +31,31 @@ pub struct Lamp {
     pub timer: InterlockRecord,
 }
 
-// Three inputs of numbers.
-fn three(a: i32, b: i32, c: i32) -> Inputs<i32>
-    ensures { result ≡ numbers a b c }
-{
-    Inputs { a, b, c }
-}
+// Signals at rest.
+const REST: Inputs<i32> = Inputs { a: 0, b: 0, c: 0 };
 
-// One input that is true or false.
-fn one(a: bool) -> Inputs<bool>
-    ensures { result ≡ switch a }
-{
-    Inputs {
-        a,
-        b: false,
-        c: false,
-    }
-}
+const OFF: Inputs<bool> = Inputs {
+    a: false,
+    b: false,
+    c: false,
+};
 
 impl Heating {
     /// The signals, each from those before it.
     pub fn solved(self) -> Readings
         ensures { Solved self result }
     {
-        let set = Loops::output(self.set, three(0, 0, 0));
-        let kiln = Loops::output(self.kiln, three(0, 0, 0));
-        let control = Loops::output(self.control, three(set, kiln, 0));
-        let valve = Loops::output(self.limit, three(control, 0, 0));
+        let set = Loops::output(self.set, REST);
+        let kiln = Loops::output(self.kiln, REST);
+        let control = Loops::output(
+            self.control,
+            Inputs {
+                a: set,
+                b: kiln,
+                ..REST
+            },
+        );
+        let valve = Loops::output(self.limit, Inputs { a: control, ..REST });
         Readings {
             set,
             kiln,
@@ -72,10 +69,23 @@ impl Heating {
         ensures { Settled self r result }
     {
         Heating {
-            set: Loops::next(self.set, three(0, 0, 0)),
-            control: Loops::next(self.control, three(r.set, r.kiln, r.valve)),
-            limit: Loops::next(self.limit, three(r.control, 0, 0)),
-            kiln: Loops::next(self.kiln, three(r.valve, 0, 0)),
+            set: Loops::next(self.set, REST),
+            control: Loops::next(
+                self.control,
+                Inputs {
+                    a: r.set,
+                    b: r.kiln,
+                    c: r.valve,
+                },
+            ),
+            limit: Loops::next(
+                self.limit,
+                Inputs {
+                    a: r.control,
+                    ..REST
+                },
+            ),
+            kiln: Loops::next(self.kiln, Inputs { a: r.valve, ..REST }),
         }
     }
 }
@@ -85,28 +95,18 @@ impl Lamp {
     pub fn is_lit(self) -> bool
         ensures { result ≡ lit self }
     {
-        Interlocks::output(self.timer, one(Interlocks::output(self.switch, one(false))))
+        let a = Interlocks::output(self.switch, OFF);
+        Interlocks::output(self.timer, Inputs { a, ..OFF })
     }
 
     /// The records after the scan: the switch is on while the reading is at or above the level.
     pub fn settled(self, level: i32, reading: i32) -> Lamp
         ensures { Moved self level reading result }
     {
-        let on = Interlocks::output(self.switch, one(false));
+        let a = Interlocks::output(self.switch, OFF);
         Lamp {
-            switch: told(self.switch, level, reading),
-            timer: Interlocks::next(self.timer, one(on)),
+            switch: Interlocks::fed(self.switch, i32::from(level <= reading)),
+            timer: Interlocks::next(self.timer, Inputs { a, ..OFF }),
         }
-    }
-}
-
-// The switch, fed 1 where the reading is at or above the level, else 0.
-fn told(block: InterlockRecord, level: i32, reading: i32) -> InterlockRecord
-    ensures { result ≡ fed block (bit (int_le level reading)) }
-{
-    if level <= reading {
-        Interlocks::fed(block, 1)
-    } else {
-        Interlocks::fed(block, 0)
     }
 }

@@ -1,3 +1,3 @@
-mod Products
-mod Squares
-mod Settling
+pub mod Products
+pub mod Squares
+pub mod Settling

@@ -9,11 +9,13 @@ use Rattle.loop_blocks.specs.declared.record.Kind.TheVariants.{Lag}
 use Rattle.loop_blocks.specs.declared.record.LoopRecord.{LoopRecord}
 use Rattle.loop_blocks.specs.Whole.{thousandth}
 use Rattle.loop_blocks.specs.Lag.{gap, lag_next}
-use Rattle.loop_blocks.specs.Counts.{fits, kind_in, counted, heard, heard_all}
-use Rattle.loop_blocks.specs.Loops.{output, next, output_of, next_of}
+use Rattle.family.specs.Rules.{fits}
+use Rattle.family.proofs.Kept.{counted_fits, next_kept}
+use Rattle.loop_blocks.specs.Counts.{heard, heard_all}
+use Rattle.loop_blocks.specs.Loops.{kinds, kind_in, counted, output, next, output_of, next_of}
 use Rattle.loop_blocks.specs.Ranges.{LagRanges}
 use Rattle.loop_blocks.specs.Steady.{after, LagSettles}
-use Rattle.loop_blocks.specs.Kept.{counted_fits, lag_ranges, heard_small, next_kept}
+use Rattle.loop_blocks.specs.Laws.{lawful, lag_ranges, heard_small}
 
 -- the gap D lies between -m and 999 + m
 abbrev Near : ℕ → ℤ → Type 0
@@ -78,11 +80,11 @@ at_end a u (negsuc d) e h = absurd (omega arith)
 
 -- what counts as a lag lies in its ranges
 in_range : (k : LoopRecord) → kind_in k ≡ Lag → LagRanges (counted k)
-in_range k e = lag_ranges (counted k) (subst (λ (t : Kind). fits t (counted k) ≡ true) e (counted_fits k))
+in_range k e = lag_ranges (counted k) (subst (λ (t : Kind). fits kinds t (counted k) ≡ true) e (counted_fits kinds lawful k))
 
 -- the next record of a lag is a lag with the next state
 next_lag : (k : LoopRecord) (x : Inputs ℤ) → kind_in k ≡ Lag → (counted (next k x)).u ≡ lag_next (counted k).params.p (heard x.a) (counted k).u
-next_lag k x e = ap (λ (q : LoopRecord). q.u) ((next_kept k x).1 ∙ ap (λ (t : Kind). next_of t (counted k) (heard_all x)) e)
+next_lag k x e = ap (λ (q : LoopRecord). q.u) ((next_kept kinds lawful k x).1 ∙ ap (λ (t : Kind). next_of t (counted k) (heard_all x)) e)
 
 -- each scan takes one from m
 near_after : (n m : ℕ) (k : LoopRecord) (x : Inputs ℤ) → kind_in k ≡ Lag → Near m (gap (heard x.a) (counted k).u) →
@@ -92,7 +94,7 @@ near_after zero m k x e h = (e, rw sub-zero h)
 near_after (suc n) m k x e h =
     let r = in_range k e in
     let one = near_next (counted k).params.p m (heard x.a) (counted k).u r.p_low r.p_high h in
-    let more = near_after n (m - 1) (next k x) x ((next_kept k x).0 ∙ e) (subst (λ (u : ℤ). Near (m - 1) (gap (heard x.a) u)) (sym (next_lag k x e)) one) in
+    let more = near_after n (m - 1) (next k x) x ((next_kept kinds lawful k x).0 ∙ e) (subst (λ (u : ℤ). Near (m - 1) (gap (heard x.a) u)) (sym (next_lag k x e)) one) in
     let less : m - 1 - n ≡ m - suc n = omega arith in
     (more.0, subst (λ (i : ℕ). Near i (gap (heard x.a) (counted (after n (next k x) x)).u)) less more.1)
 

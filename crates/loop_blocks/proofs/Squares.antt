@@ -8,8 +8,8 @@ use Rattle.family.specs.declared.values.Inputs.{Inputs}
 use Rattle.loop_blocks.specs.declared.record.Kind.{Kind}
 use Rattle.loop_blocks.specs.declared.record.LoopRecord.{LoopRecord}
 use Rattle.loop_blocks.specs.Root.{IsRoot, rise, root_of, root_out}
-use Rattle.loop_blocks.specs.Counts.{counted, heard_all}
-use Rattle.loop_blocks.specs.Loops.{output, output_of}
+use Rattle.loop_blocks.specs.Counts.{heard_all}
+use Rattle.loop_blocks.specs.Loops.{counted, output, output_of}
 use Rattle.loop_blocks.specs.Steady.{RootExact}
 
 -- squares rise

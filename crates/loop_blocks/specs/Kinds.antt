@@ -13,12 +13,26 @@ kind_of n =
     (cond (n == 5) (Some Root) (cond (n == 6) (Some Lag) (cond (n == 7) (Some Hold) (cond (n == 8) (Some Low)
     (cond (n == 9) (Some High) (cond (n == 10) (Some Sum) (cond (n == 11) (Some Gain) None))))))))))
 
--- the code of the kind that a word names
-abbrev pub code_of : List ℕ → Option ℕ
-code_of w =
-    cond (bytes_eq w (codes "in")) (Some 1) (cond (bytes_eq w (codes "pid")) (Some 2) (cond (bytes_eq w (codes "pidt")) (Some 3) (cond (bytes_eq w (codes "lim")) (Some 4)
-    (cond (bytes_eq w (codes "root")) (Some 5) (cond (bytes_eq w (codes "lag")) (Some 6) (cond (bytes_eq w (codes "hold")) (Some 7) (cond (bytes_eq w (codes "low")) (Some 8)
-    (cond (bytes_eq w (codes "high")) (Some 9) (cond (bytes_eq w (codes "sum")) (Some 10) (cond (bytes_eq w (codes "gain")) (Some 11) None))))))))))
+-- the code of a kind
+abbrev pub kind_code : Kind → ℕ
+kind_code In = 1
+kind_code Pid = 2
+kind_code Pidt = 3
+kind_code Lim = 4
+kind_code Root = 5
+kind_code Lag = 6
+kind_code Hold = 7
+kind_code Low = 8
+kind_code High = 9
+kind_code Sum = 10
+kind_code Gain = 11
+
+-- the kind that a word names
+abbrev pub kind_named : List ℕ → Option Kind
+kind_named w =
+    cond (bytes_eq w (codes "in")) (Some In) (cond (bytes_eq w (codes "pid")) (Some Pid) (cond (bytes_eq w (codes "pidt")) (Some Pidt) (cond (bytes_eq w (codes "lim")) (Some Lim)
+    (cond (bytes_eq w (codes "root")) (Some Root) (cond (bytes_eq w (codes "lag")) (Some Lag) (cond (bytes_eq w (codes "hold")) (Some Hold) (cond (bytes_eq w (codes "low")) (Some Low)
+    (cond (bytes_eq w (codes "high")) (Some High) (cond (bytes_eq w (codes "sum")) (Some Sum) (cond (bytes_eq w (codes "gain")) (Some Gain) None))))))))))
 
 -- how many ports a kind has
 abbrev pub ports_of : Kind → ℕ
@@ -36,31 +50,21 @@ ports_of Gain = 1
 
 -- whether a port is late: the tracking input of a pidt, and the input of a lag and of a hold
 abbrev pub late_of : Kind → ℕ → Bool
-late_of In i = false
-late_of Pid i = false
 late_of Pidt i = i == 2
-late_of Lim i = false
-late_of Root i = false
 late_of Lag i = i == 0
 late_of Hold i = i == 0
-late_of Low i = false
-late_of High i = false
-late_of Sum i = false
-late_of Gain i = false
+late_of _ i = false
 
 -- whether a kind takes feeds
 abbrev pub takes_of : Kind → Bool
 takes_of In = true
-takes_of Pid = false
-takes_of Pidt = false
-takes_of Lim = false
-takes_of Root = false
-takes_of Lag = false
-takes_of Hold = false
-takes_of Low = false
-takes_of High = false
-takes_of Sum = false
-takes_of Gain = false
+takes_of _ = false
+
+-- whether a new block of a kind starts with p as its state
+abbrev pub starts_of : Kind → Bool
+starts_of In = true
+starts_of Hold = true
+starts_of _ = false
 
 -- the first bad parameter of a controller: three gains
 abbrev pub bad_gains : Params → Option ℕ

@@ -7,6 +7,5 @@ pub mod Counts
 pub mod Loops
 pub mod Ranges
 pub mod Steady
-pub mod Kept
 pub mod Lagging
-pub mod Lateness
+pub mod Laws

@@ -4,8 +4,8 @@ use Rattle.family.specs.declared.values.Inputs.{Inputs}
 use Rattle.loop_blocks.specs.declared.record.Kind.TheVariants.{Root, Lag}
 use Rattle.loop_blocks.specs.declared.record.LoopRecord.{LoopRecord}
 use Rattle.loop_blocks.specs.Root.{IsRoot}
-use Rattle.loop_blocks.specs.Counts.{kind_in, heard}
-use Rattle.loop_blocks.specs.Loops.{output, next}
+use Rattle.loop_blocks.specs.Counts.{heard}
+use Rattle.loop_blocks.specs.Loops.{kind_in, output, next}
 
 -- where the record counts as a root and its input is a, not below 0, s is the root of 1,000,000 × a, rounded down
 abbrev pub RootExact : LoopRecord → Inputs ℤ → ℤ → Type 0

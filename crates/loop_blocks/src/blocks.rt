@@ -1,78 +1,45 @@
-//! What a block does, one function to a kind.
+//! What a block does, by its kind.
 ghost use Rattle.std.specs.Prelude.{◌≡◌};
-ghost use Rattle.loop_blocks.specs.Loops.{output_of, next_of, with_u, fed_of, retuned};
-ghost use Rattle.loop_blocks.specs.Ranges.{Ranges, SignalRanges};
+ghost use Rattle.loop_blocks.specs.Loops.{output_of, next_of};
 
-use crate::counted::Counted;
-use crate::lag::lag_next;
-use crate::leaves::{gained, limited, root, summed};
-use crate::pid::{pid_next, pid_output, pidt_next};
+use crate::lag::Lag;
+use crate::leaves::{gained, root, summed};
+use crate::pid::Controller;
 use crate::record::{Kind, LoopRecord};
-use crate::whole::{to_signal, to_span};
-use family::{Inputs, Params};
+use crate::whole::{Signal, State, Within};
+use family::{BlockKind, Counted, Inputs};
 
-impl Counted {
-    // The block's output.
-    pub(crate) fn output(self, x: Inputs<i32>) -> i32
-        requires { (Ranges self.kind self.block) × (SignalRanges x) }
-        ensures { result ≡ output_of self.kind self.block x }
-    {
-        let k = self.block;
-        match self.kind {
-            Kind::In => k.u,
-            Kind::Pid => pid_output(k, x.a, x.b),
-            Kind::Pidt => pid_output(k, x.a, x.b),
-            Kind::Lim => limited(k.params.p, k.params.q, x.a),
-            Kind::Root => root(x.a),
-            Kind::Lag => to_signal(k.u),
-            Kind::Hold => k.u,
-            Kind::Low => x.a.min(x.b),
-            Kind::High => x.a.max(x.b),
-            Kind::Sum => summed(x.a, x.b, x.c),
-            Kind::Gain => gained(k.params.p, x.a),
-        }
-    }
-
-    // The block's next record.
-    pub(crate) fn next(self, x: Inputs<i32>) -> LoopRecord
-        requires { (Ranges self.kind self.block) × (SignalRanges x) }
-        ensures { result ≡ next_of self.kind self.block x }
-    {
-        let k = self.block;
-        match self.kind {
-            Kind::Pid => pid_next(k, x.a, x.b),
-            Kind::Pidt => pidt_next(k, x.a, x.b, x.c),
-            Kind::Lag => with_u(k, lag_next(k.params.p, x.a, k.u)),
-            Kind::Hold => with_u(k, x.a),
-            _ => k,
-        }
-    }
-
-    // The block's record after a feed.
-    pub(crate) fn fed(self, n: i32) -> LoopRecord
-        ensures { result ≡ fed_of self.kind self.block n }
-    {
-        if self.kind.takes() {
-            with_u(self.block, to_span(n as i64))
-        } else {
-            self.block
-        }
-    }
-
-    // The block's record with other parameters.
-    pub(crate) fn tuned(self, params: Params) -> LoopRecord
-        ensures { result ≡ retuned self.block params }
-    {
-        LoopRecord {
-            params,
-            ..self.block
-        }
+// The block's output.
+#[tactic(auto, using(crate::specs::Laws::pid_ranges, crate::specs::Laws::lag_ranges, crate::specs::Laws::lim_order))]
+pub(crate) fn output(k: Counted<Kind>, x: Inputs<Signal>) -> i32
+    ensures { result ≡ output_of k.kind k.block (record { a = x.a.n; b = x.b.n; c = x.c.n }) }
+{
+    let block = k.block;
+    match k.kind {
+        Kind::In | Kind::Hold => block.u,
+        Kind::Pid => Controller { block }.output(x.a, x.b).n,
+        Kind::Pidt => Controller { block }.output(x.a, x.b).n,
+        Kind::Lim => x.a.n.clamp(block.params.p, block.params.q),
+        Kind::Root => root(x.a),
+        Kind::Lag => State { n: block.u }.signal().n,
+        Kind::Low => x.a.n.min(x.b.n),
+        Kind::High => x.a.n.max(x.b.n),
+        Kind::Sum => summed(x.a, x.b, x.c).n,
+        Kind::Gain => gained(Within { n: block.params.p }, x.a).n,
     }
 }
 
-// The record with another state u.
-fn with_u(k: LoopRecord, u: i32) -> LoopRecord
-    ensures { result ≡ with_u k u }
+// The block's next record.
+#[tactic(auto, using(crate::specs::Laws::pid_ranges, crate::specs::Laws::lag_ranges))]
+pub(crate) fn next(k: Counted<Kind>, x: Inputs<Signal>) -> LoopRecord
+    ensures { result ≡ next_of k.kind k.block (record { a = x.a.n; b = x.b.n; c = x.c.n }) }
 {
-    LoopRecord { u, ..k }
+    let block = k.block;
+    match k.kind {
+        Kind::Pid => Controller { block }.next(x.a, x.b),
+        Kind::Pidt => Controller { block }.tracked(x.a, x.b, x.c),
+        Kind::Lag => Kind::with_u(block, Lag { block }.next(x.a).n),
+        Kind::Hold => Kind::with_u(block, x.a.n),
+        _ => block,
+    }
 }

@@ -1,76 +1,66 @@
-//! The kinds by code and word, and what each asks of its parameters.
+//! The kinds by code and word, what each asks of its parameters and its states, and their record.
 ghost use Rattle.std.specs.Prelude.{◌≡◌};
-ghost use Rattle.loop_blocks.specs.Kinds.{kind_of, code_of, ports_of, late_of, takes_of, bad_gains, bad_limits, bad_of};
-ghost use Rattle.loop_blocks.specs.Loops.{bad_for, start_of};
+ghost use Rattle.loop_blocks.specs.Counts.{limits_of, states_fit};
+ghost use Rattle.loop_blocks.specs.Kinds.{bad_gains, bad_limits};
+ghost use Rattle.loop_blocks.specs.Laws.{lawful as kinds_lawful};
+ghost use Rattle.loop_blocks.specs.Loops.{kinds};
 
-use crate::record::Kind;
-use family::{Params, bad_but, first_bad, is_among, is_within, is_word};
+use crate::record::{Kind, Limits, LoopRecord};
+use crate::whole::Signal;
+use family::{BlockKind, Params, bad_but, first_bad, is_among, is_within};
 
-// The kind of a code.
-pub(crate) fn kind_of(code: u8) -> Option<Kind>
-    ensures { result ≡ kind_of code }
-{
-    match code {
-        1 => Some(Kind::In),
-        2 => Some(Kind::Pid),
-        3 => Some(Kind::Pidt),
-        4 => Some(Kind::Lim),
-        5 => Some(Kind::Root),
-        6 => Some(Kind::Lag),
-        7 => Some(Kind::Hold),
-        8 => Some(Kind::Low),
-        9 => Some(Kind::High),
-        10 => Some(Kind::Sum),
-        11 => Some(Kind::Gain),
-        _ => None,
-    }
-}
+impl BlockKind for Kind {
+    type Record = LoopRecord;
 
-// The code of the kind that a word names.
-pub(crate) fn code_of(text: &[u8]) -> Option<u8>
-    ensures { result ≡ code_of text.now }
-{
-    if is_word(text, b"in") {
-        return Some(1);
-    }
-    if is_word(text, b"pid") {
-        return Some(2);
-    }
-    if is_word(text, b"pidt") {
-        return Some(3);
-    }
-    if is_word(text, b"lim") {
-        return Some(4);
-    }
-    if is_word(text, b"root") {
-        return Some(5);
-    }
-    if is_word(text, b"lag") {
-        return Some(6);
-    }
-    if is_word(text, b"hold") {
-        return Some(7);
-    }
-    if is_word(text, b"low") {
-        return Some(8);
-    }
-    if is_word(text, b"high") {
-        return Some(9);
-    }
-    if is_word(text, b"sum") {
-        return Some(10);
-    }
-    if is_word(text, b"gain") {
-        return Some(11);
-    }
-    None
-}
+    type Signal = i32;
 
-impl Kind {
-    // How many ports the kind has.
-    pub(crate) fn ports(self) -> u8
-        ensures { result ≡ ports_of self }
-    {
+    ghost rules = { kinds };
+
+    ghost lawful = { kinds_lawful };
+
+    fn named(text: &[u8]) -> Option<Kind> {
+        match text {
+            b"in" => Some(Kind::In),
+            b"pid" => Some(Kind::Pid),
+            b"pidt" => Some(Kind::Pidt),
+            b"lim" => Some(Kind::Lim),
+            b"root" => Some(Kind::Root),
+            b"lag" => Some(Kind::Lag),
+            b"hold" => Some(Kind::Hold),
+            b"low" => Some(Kind::Low),
+            b"high" => Some(Kind::High),
+            b"sum" => Some(Kind::Sum),
+            b"gain" => Some(Kind::Gain),
+            _ => None,
+        }
+    }
+
+    fn of_code(code: u8) -> Option<Kind> {
+        match code {
+            1 => Some(Kind::In),
+            2 => Some(Kind::Pid),
+            3 => Some(Kind::Pidt),
+            4 => Some(Kind::Lim),
+            5 => Some(Kind::Root),
+            6 => Some(Kind::Lag),
+            7 => Some(Kind::Hold),
+            8 => Some(Kind::Low),
+            9 => Some(Kind::High),
+            10 => Some(Kind::Sum),
+            11 => Some(Kind::Gain),
+            _ => None,
+        }
+    }
+
+    fn code(self) -> u8 {
+        self as u8
+    }
+
+    fn plain() -> Kind {
+        Kind::In
+    }
+
+    fn ports(self) -> u8 {
         match self {
             Kind::In => 0,
             Kind::Lim | Kind::Root | Kind::Lag | Kind::Hold | Kind::Gain => 1,
@@ -79,10 +69,7 @@ impl Kind {
         }
     }
 
-    // Whether a port is late.
-    pub(crate) fn late(self, port: u8) -> bool
-        ensures { result ≡ late_of self port }
-    {
+    fn late(self, port: u8) -> bool {
         match self {
             Kind::Lag | Kind::Hold => port == 0,
             Kind::Pidt => port == 2,
@@ -90,20 +77,19 @@ impl Kind {
         }
     }
 
-    // Whether the kind takes feeds.
-    pub(crate) fn takes(self) -> bool
-        ensures { result ≡ takes_of self }
-    {
-        match self {
-            Kind::In => true,
-            _ => false,
-        }
+    fn takes(self) -> bool {
+        self == Kind::In
     }
 
-    // The first parameter that the kind does not accept.
-    pub(crate) fn bad(self, x: Params) -> Option<u8>
-        ensures { result ≡ bad_of self x }
-    {
+    fn told(n: i32) -> i32 {
+        Signal::limited(i64::from(n)).n
+    }
+
+    fn starts(self) -> bool {
+        matches!(self, Kind::In | Kind::Hold)
+    }
+
+    fn bad(self, x: Params) -> Option<u8> {
         match self {
             Kind::In | Kind::Hold => bad_but(is_within(x.p, 1_000_000), x),
             Kind::Pid | Kind::Pidt => bad_gains(x),
@@ -113,25 +99,36 @@ impl Kind {
             Kind::Root | Kind::Low | Kind::High | Kind::Sum => bad_but(is_within(x.p, 0), x),
         }
     }
-}
 
-// The first parameter that the kind of a code does not accept.
-pub(crate) fn bad_for(code: u8, x: Params) -> Option<u8>
-    ensures { result ≡ bad_for (kind_of code) x }
-{
-    match kind_of(code) {
-        Some(kind) => kind.bad(x),
-        None => None,
+    fn holds(self, k: LoopRecord) -> bool {
+        states_fit(limits(self), k)
     }
-}
 
-// The state u that a block of the kind of a code starts with.
-pub(crate) fn start_for(code: u8, x: Params) -> i32
-    ensures { result ≡ start_of (kind_of code) x }
-{
-    match kind_of(code) {
-        Some(Kind::In) | Some(Kind::Hold) => x.p,
-        _ => 0,
+    fn made(code: u8, params: Params, u: i32) -> LoopRecord {
+        LoopRecord {
+            code,
+            params,
+            u,
+            v: 0,
+            w: 0,
+            z: 0,
+        }
+    }
+
+    fn code_in(k: LoopRecord) -> u8 {
+        k.code
+    }
+
+    fn params_in(k: LoopRecord) -> Params {
+        k.params
+    }
+
+    fn retuned(k: LoopRecord, params: Params) -> LoopRecord {
+        LoopRecord { params, ..k }
+    }
+
+    fn with_u(k: LoopRecord, u: i32) -> LoopRecord {
+        LoopRecord { u, ..k }
     }
 }
 
@@ -156,4 +153,24 @@ fn bad_limits(x: Params) -> Option<u8>
         is_within(x.q, 1_000_000) & above,
         is_within(x.r, 0),
     )
+}
+
+// How large each state of a kind can be.
+fn limits(kind: Kind) -> Limits
+    ensures { result ≡ limits_of kind }
+{
+    let (u, v, w, z) = match kind {
+        Kind::In | Kind::Hold => (1_000_000, 0, 0, 0),
+        Kind::Pid | Kind::Pidt => (1_000_000_000, 2_000_000, 1_000_000, 1_000_000),
+        Kind::Lag => (1_000_000_000, 0, 0, 0),
+        _ => (0, 0, 0, 0),
+    };
+    Limits { u, v, w, z }
+}
+
+// Whether each state is within its limit.
+fn states_fit(m: Limits, k: LoopRecord) -> bool
+    ensures { result ≡ states_fit m k }
+{
+    is_within(k.u, m.u) & is_within(k.v, m.v) & is_within(k.w, m.w) & is_within(k.z, m.z)
 }

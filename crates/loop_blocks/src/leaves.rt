@@ -1,19 +1,12 @@
 //! The blocks without a state of their own.
-ghost use Rattle.std.specs.Prelude.{◌≡◌, ◌≤◌, ◌+ℤ◌, ◌-ℤ◌, ◌*ℤ◌, ◌≤ℤ◌, unsigned_abs};
-ghost use Rattle.loop_blocks.specs.Whole.{limit, span, thousandth};
+ghost use Rattle.std.specs.Prelude.{◌≡◌, ◌≤◌, ◌+ℤ◌, ◌-ℤ◌, ◌*ℤ◌, unsigned_abs};
+ghost use Rattle.loop_blocks.specs.Whole.{span, thousandth};
 ghost use Rattle.loop_blocks.specs.Root.{root_of, root_out};
 
-use crate::whole::{less, plus, times, to_span, to_thousandth};
-
-// The input, limited to p..q.
-pub(crate) fn limited(p: i32, q: i32, a: i32) -> i32
-    requires { p ≤ℤ q }
-    ensures { result ≡ limit p q a }
-{
-    a.clamp(p, q)
-}
+use crate::whole::{Signal, Within, times};
 
 // The square root, rounded down.
+#[tactic(auto, using(crate::proofs::Squares::is_root, crate::proofs::Squares::square_le))]
 fn sqrt(n: u64) -> u64
     ensures value { result ≡ root_of n }
     ensures bound { n ≤ 1000000000000 → result ≤ 1000000 }
@@ -22,29 +15,33 @@ fn sqrt(n: u64) -> u64
 }
 
 // The root of 1,000,000 times the input; 0 below 0.
-pub(crate) fn root(a: i32) -> i32
-    requires { unsigned_abs a ≤ 1000000 }
-    ensures { result ≡ root_out a }
+pub(crate) fn root(a: Signal) -> i32
+    ensures { result ≡ root_out a.n }
 {
-    if a < 0 {
+    if a.n < 0 {
         0
     } else {
-        sqrt(1_000_000 * u64::from(a.unsigned_abs())) as i32
+        sqrt(1_000_000 * u64::from(a.n.unsigned_abs())) as i32
     }
 }
 
-// a + b − c, limited.
-pub(crate) fn summed(a: i32, b: i32, c: i32) -> i32
-    requires { (unsigned_abs a ≤ 1000000) × ((unsigned_abs b ≤ 1000000) × (unsigned_abs c ≤ 1000000)) }
-    ensures { result ≡ span (a +ℤ b -ℤ c) }
+// a + b − c.
+fn total(a: Signal, b: Signal, c: Signal) -> i64
+    ensures { result ≡ a.n +ℤ b.n -ℤ c.n }
 {
-    to_span(less(plus(a as i64, b as i64), c as i64))
+    i64::from(a.n + b.n - c.n)
+}
+
+// a + b − c, limited.
+pub(crate) fn summed(a: Signal, b: Signal, c: Signal) -> Signal
+    ensures { result.n ≡ span (a.n +ℤ b.n -ℤ c.n) }
+{
+    Signal::limited(total(a, b, c))
 }
 
 // p thousandths of the input, rounded down and limited.
-pub(crate) fn gained(p: i32, a: i32) -> i32
-    requires { (unsigned_abs p ≤ 100000) × (unsigned_abs a ≤ 1000000) }
-    ensures { result ≡ span (thousandth (p *ℤ a)) }
+pub(crate) fn gained(p: Within<100_000>, a: Signal) -> Signal
+    ensures { result.n ≡ span (thousandth (p.n *ℤ a.n)) }
 {
-    to_span(to_thousandth(times(p, a)))
+    Signal::limited(times(p, a).thousandth())
 }

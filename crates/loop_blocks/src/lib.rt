@@ -1,27 +1,27 @@
 //! The family of loop blocks: whole numbers.
 #![tactic(auto)]
 
-ghost use Rattle.std.specs.Prelude.{◌≡◌, pos};
-ghost use Rattle.loop_blocks.specs.Kinds.{code_of};
-ghost use Rattle.loop_blocks.specs.Counts.{heard};
-ghost use Rattle.loop_blocks.specs.Loops.{exists as is_kind, bad as bad_of, fresh as fresh_of, ports as ports_of, late as late_of, takes as takes_of, fed as fed_of, unfit as unfit_of, tuned as tuned_of, output as output_of, next as next_of};
+ghost use Rattle.std.specs.Prelude.{◌≡◌};
+ghost use Rattle.loop_blocks.specs.Loops.{loops};
 ghost use Rattle.loop_blocks.specs.Steady.{LagSettles, RootExact};
-ghost use Rattle.loop_blocks.specs.Kept.{kind_law as kinds_kept, at_most_three};
-ghost use Rattle.loop_blocks.specs.Lateness.{late_law};
+ghost use Rattle.loop_blocks.specs.Laws.{kind_law as kinds_kept, at_most_three, late_law};
 
 mod blocks;
-mod counted;
 mod kinds;
 mod lag;
 mod leaves;
 mod pid;
 mod record;
+mod signals;
 mod whole;
 
-use counted::{hear, hear_all, read};
-use family::{Family, Inputs, Params};
-use kinds::{bad_for, code_of, kind_of, start_for};
+use family::{BlockKind, Counted, Family, Inputs, Params};
+use record::Kind;
 pub use record::LoopRecord;
+use signals::{hear, hear_all};
+
+// A record as it counts.
+type Block = Counted<Kind>;
 
 /// The loops. A signal is a whole number from −1,000,000 to 1,000,000; 0 is the signal at rest.
 pub struct Loops;
@@ -31,33 +31,33 @@ impl Family for Loops {
 
     type Signal = i32;
 
-    ghost word = { code_of };
+    ghost word = { loops.word };
 
-    ghost exists = { is_kind };
+    ghost exists = { loops.exists };
 
-    ghost bad = { bad_of };
+    ghost bad = { loops.bad };
 
-    ghost fresh = { fresh_of };
+    ghost fresh = { loops.fresh };
 
-    ghost ports = { ports_of };
+    ghost ports = { loops.ports };
 
-    ghost late = { late_of };
+    ghost late = { loops.late };
 
-    ghost takes = { takes_of };
+    ghost takes = { loops.takes };
 
-    ghost fed = { fed_of };
+    ghost fed = { loops.fed };
 
-    ghost unfit = { unfit_of };
+    ghost unfit = { loops.unfit };
 
-    ghost tuned = { tuned_of };
+    ghost tuned = { loops.tuned };
 
-    ghost output = { output_of };
+    ghost output = { loops.output };
 
-    ghost next = { next_of };
+    ghost next = { loops.next };
 
-    ghost number = { heard };
+    ghost number = { loops.number };
 
-    ghost rest = { pos 0 };
+    ghost rest = { loops.rest };
 
     ghost few = { at_most_three };
 
@@ -66,67 +66,60 @@ impl Family for Loops {
     ghost kind = { kinds_kept };
 
     fn word(text: &[u8]) -> Option<u8> {
-        code_of(text)
+        Kind::named(text).map(Kind::code)
     }
 
     fn exists(kind: u8) -> bool {
-        kind_of(kind).is_some()
+        Kind::of_code(kind).is_some()
     }
 
     fn bad(kind: u8, params: Params) -> Option<u8> {
-        bad_for(kind, params)
+        Kind::bad_for(kind, params)
     }
 
     fn fresh(kind: u8, params: Params) -> LoopRecord {
-        LoopRecord {
-            code: kind,
-            params,
-            u: start_for(kind, params),
-            v: 0,
-            w: 0,
-            z: 0,
-        }
+        Kind::fresh(kind, params)
     }
 
     fn ports(block: LoopRecord) -> u8 {
-        read(block).kind.ports()
+        Block::read(block).kind.ports()
     }
 
     fn late(block: LoopRecord, port: u8) -> bool {
-        read(block).kind.late(port)
+        Block::read(block).kind.late(port)
     }
 
     fn takes(block: LoopRecord) -> bool {
-        read(block).kind.takes()
+        Block::read(block).kind.takes()
     }
 
     fn fed(block: LoopRecord, n: i32) -> LoopRecord {
-        read(block).fed(n)
+        Block::read(block).fed(n)
     }
 
     fn unfit(block: LoopRecord, params: Params) -> Option<u8> {
-        read(block).kind.bad(params)
+        Block::read(block).kind.bad(params)
     }
 
     fn tuned(block: LoopRecord, params: Params) -> LoopRecord {
-        read(block).tuned(params)
+        Block::read(block).tuned(params)
     }
 
     fn output(block: LoopRecord, inputs: Inputs<i32>) -> i32
-        ensures value { result ≡ output_of block inputs }
+        ensures value { result ≡ loops.output block inputs }
         ensures root { RootExact block inputs result }
     {
-        read(block).output(hear_all(inputs))
+        blocks::output(Block::read(block), hear_all(inputs))
     }
 
     fn next(block: LoopRecord, inputs: Inputs<i32>) -> LoopRecord
-        ensures { result ≡ next_of block inputs }
+        ensures { result ≡ loops.next block inputs }
     {
-        read(block).next(hear_all(inputs))
+        blocks::next(Block::read(block), hear_all(inputs))
     }
 
     fn number(signal: i32) -> i32 {
-        hear(signal)
+        hear(signal).n
     }
 
     fn rest() -> i32 {
@@ -144,6 +137,7 @@ pub fn lag_scans() -> u32
 }
 
 // The bound of the lag.
+#[tactic(auto, using(crate::proofs::Settling::settles))]
 fn lag_settles()
     ensures { LagSettles 2000000000 }
 {}

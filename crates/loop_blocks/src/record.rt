@@ -12,20 +12,20 @@ pub struct LoopRecord {
     pub z: i32,
 }
 
-// The kinds of loop blocks.
-#[derive(Clone, Copy, Drop)]
+// The kinds of loop blocks, each with its code.
+#[derive(Clone, Copy, PartialEq, Eq, Debug, Drop)]
 pub(crate) enum Kind {
-    In,
-    Pid,
-    Pidt,
-    Lim,
-    Root,
-    Lag,
-    Hold,
-    Low,
-    High,
-    Sum,
-    Gain,
+    In = 1,
+    Pid = 2,
+    Pidt = 3,
+    Lim = 4,
+    Root = 5,
+    Lag = 6,
+    Hold = 7,
+    Low = 8,
+    High = 9,
+    Sum = 10,
+    Gain = 11,
 }
 
 // How large each state of a block can be.

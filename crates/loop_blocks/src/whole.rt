@@ -1,67 +1,75 @@
-//! Whole numbers, one operation to a function: each says its value and, where a caller needs it, its bound.
-ghost use Rattle.std.specs.Prelude.{◌≡◌, ◌≤◌, ◌+ℤ◌, ◌-ℤ◌, ◌*ℤ◌, unsigned_abs};
-ghost use Rattle.loop_blocks.specs.Whole.{span, wide, thousandth};
+//! Whole numbers with a bound.
+ghost use Rattle.std.specs.Prelude.{◌≡◌, ◌≤◌, ◌<◌, ◌^◌, ◌*◌, pos, neg_ℤ, ◌*ℤ◌, unsigned_abs};
+ghost use Rattle.loop_blocks.specs.Whole.{limit, thousandth};
 
-// Limited to what a signal can be.
-pub(crate) fn to_span(n: i64) -> i32
-    ensures value { result ≡ span n }
-    ensures bound { unsigned_abs result ≤ 1000000 }
-{
-    n.clamp(-1_000_000, 1_000_000) as i32
+// A whole number from −N to N.
+#[derive(Clone, Copy, Drop)]
+pub(crate) struct Within<const N: u32> {
+    pub(crate) n: i32,
+    pub(crate) ghost within: { unsigned_abs n ≤ N },
 }
 
-// Limited to what a state in thousandths can be.
-pub(crate) fn to_wide(n: i64) -> i32
-    ensures value { result ≡ wide n }
-    ensures bound { unsigned_abs result ≤ 1000000000 }
-{
-    n.clamp(-1_000_000_000, 1_000_000_000) as i32
+// What a signal can be, and a state in thousandths.
+pub(crate) type Signal = Within<1_000_000>;
+
+pub(crate) type State = Within<1_000_000_000>;
+
+impl<const N: u32> Within<N> {
+    // The number, limited to −N to N.
+    pub(crate) fn limited(n: i64) -> Within<N>
+        requires { N < 2 ^ 31 }
+        ensures { result.n ≡ limit (neg_ℤ (pos N)) (pos N) n }
+    {
+        let most = i64::from(N);
+        Within {
+            n: n.clamp(-most, most) as i32,
+        }
+    }
 }
 
-// A thousandth, rounded down.
-pub(crate) fn to_thousandth(n: i64) -> i64
-    ensures value { result ≡ thousandth n }
-    ensures bound { unsigned_abs result ≤ unsigned_abs n }
-{
-    n.div_euclid(1000)
+impl State {
+    // The signal that a state in thousandths stands for, rounded down.
+    pub(crate) fn signal(self) -> Signal
+        ensures { result.n ≡ thousandth self.n }
+    {
+        Within {
+            n: self.n.div_euclid(1000),
+        }
+    }
 }
 
-// A thousandth of a state, rounded down: a signal.
-pub(crate) fn to_signal(u: i32) -> i32
-    requires { unsigned_abs u ≤ 1000000000 }
-    ensures value { result ≡ thousandth u }
-    ensures bound { unsigned_abs result ≤ 1000000 }
-{
-    u.div_euclid(1000)
+// A product of bounded numbers, in 64 bits.
+#[derive(Clone, Copy, Drop)]
+pub(crate) struct Product {
+    pub(crate) n: i64,
+    pub(crate) ghost within: { unsigned_abs n ≤ 2000000000000000 },
 }
 
-// The product of a parameter and a number of at most 2,000,000,000.
-pub(crate) fn times(a: i32, b: i32) -> i64
-    requires { (unsigned_abs a ≤ 1000000) × (unsigned_abs b ≤ 2000000000) }
-    ensures value { result ≡ a *ℤ b }
-    ensures bound { unsigned_abs result ≤ 2000000000000000 }
-{
-    a as i64 * b as i64
+impl Product {
+    // A thousandth, rounded down.
+    pub(crate) fn thousandth(self) -> i64
+        ensures value { result ≡ thousandth self.n }
+        ensures bound { unsigned_abs result ≤ unsigned_abs self.n }
+    {
+        self.n.div_euclid(1000)
+    }
 }
 
-// The difference of two numbers of at most 10,000,000.
-pub(crate) fn minus(a: i32, b: i32) -> i32
-    requires { (unsigned_abs a ≤ 10000000) × (unsigned_abs b ≤ 10000000) }
-    ensures { result ≡ a -ℤ b }
+// The product of two numbers.
+#[tactic(auto, using(crate::proofs::Products::product_fits))]
+fn exact_product(a: i32, b: i32) -> i64
+    ensures { result ≡ a *ℤ b }
 {
-    a - b
+    i64::from(a) * i64::from(b)
 }
 
-pub(crate) fn plus(a: i64, b: i64) -> i64
-    requires { (unsigned_abs a ≤ 1000000000000000000) × (unsigned_abs b ≤ 1000000000000000000) }
-    ensures { result ≡ a +ℤ b }
+// The product of a number from −A to A and one from −B to B.
+#[tactic(auto, using(crate::proofs::Products::small_product))]
+pub(crate) fn times<const A: u32, const B: u32>(a: Within<A>, b: Within<B>) -> Product
+    requires { A * B ≤ 2000000000000000 }
+    ensures { result.n ≡ a.entry.n *ℤ b.entry.n }
 {
-    a + b
-}
-
-pub(crate) fn less(a: i64, b: i64) -> i64
-    requires { (unsigned_abs a ≤ 1000000000000000000) × (unsigned_abs b ≤ 1000000000000000000) }
-    ensures { result ≡ a -ℤ b }
-{
-    a - b
+    Product {
+        n: exact_product(a.n, b.n),
+    }
 }
