@@ -1,5 +1,5 @@
 -- What becomes of a file that is checked and run.
-use Rattle.std.specs.Prelude.{◌≡◌, ℕ, ◌⊎◌, List}
+use Rattle.std.specs.Prelude.{◌≡◌, ℕ, ◌⊎◌, List, Err}
 use Rattle.family.specs.Meaning.{Meaning}
 use Rattle.refusal.specs.declared.refusals.Refusal.{Refusal}
 use Rattle.refusal.specs.declared.refusals.Told.{Told}
@@ -7,8 +7,7 @@ use Rattle.refusal.specs.declared.refusals.Told.TheVariants.{Nothing, Line, Para
 use Rattle.refusal.specs.Numbers.{meaning}
 use Rattle.words.specs.Parts.{lines_of}
 use Rattle.diagram.specs.View.{Lent}
-use Rattle.loop_file.specs.declared.outcome.Outcome.{Outcome}
-use Rattle.loop_file.specs.declared.outcome.Outcome.TheVariants.{Stopped}
+use Rattle.loop_file.specs.declared.stop.Stop.{Stop}
 use Rattle.loop_file.specs.Files.{FitsFile, Refused}
 use Rattle.runner.specs.declared.names.Names.{Names}
 use Rattle.runner.specs.declared.report.Report.{Report}
@@ -21,15 +20,15 @@ line_told (Line n) = n
 line_told (Parameter p) = 0
 
 -- where a check stops a file that it refuses
-abbrev pub stopped_by : Refusal → Outcome
-stopped_by e = Stopped (line_told (meaning e).1) e
+abbrev pub stopped_by : Refusal → Stop
+stopped_by e = record { line = line_told (meaning e).1; refusal = e }
 
 module _ {F R S : Type 0} (m : Meaning R S) where
   -- the check refused the file, and everything is as it was
   pub record Unread (file : List ℕ) (k : Lent F R S) (t : Names) (old : List ℕ) (r : Report) (l : Lent F R S) (t' : Names) (new : List ℕ) : Type 0 where
     pub refusal : Refusal
     pub why : Refused file refusal
-    pub outcome : r.outcome ≡ stopped_by refusal
+    pub outcome : r.outcome ≡ Err (stopped_by refusal)
     pub written : r.written ≡ 0
     pub lent : l ≡ k
     pub names : t' ≡ t

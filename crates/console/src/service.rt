@@ -6,7 +6,7 @@ ghost use Rattle.console.specs.Served.{Served, stopped_by};
 
 use diagram::Diagram;
 use family::Family;
-use loop_file::{CheckedFile, Outcome};
+use loop_file::{CheckedFile, Stop};
 use refusal::{Refusal, Told};
 use runner::{Names, Report, run};
 
@@ -26,17 +26,17 @@ pub fn serve<F: Family>(
         Ok(()) => run(checked, diagram, names, records, signals, reply),
         Err(refusal) => Report {
             written: 0,
-            outcome: stopped_by(refusal),
+            outcome: Err(stopped_by(refusal)),
         },
     }
 }
 
 // Where a check stops a file that it refuses.
-fn stopped_by(refusal: Refusal) -> Outcome
+fn stopped_by(refusal: Refusal) -> Stop
     ensures { result ≡ stopped_by refusal }
 {
     match refusal.told() {
-        Told::Line(line) => Outcome::Stopped { line, refusal },
-        _ => Outcome::Stopped { line: 0, refusal },
+        Told::Line(line) => Stop { line, refusal },
+        _ => Stop { line: 0, refusal },
     }
 }

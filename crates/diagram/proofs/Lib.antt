@@ -1,3 +1,4 @@
 mod Agree
 mod Ring
 mod Placed
+mod Joined

@@ -15,7 +15,7 @@ use Rattle.diagram.specs.View.{chart}
 use Rattle.diagram.specs.World.{DirectSlots}
 
 -- one port of one slot changed
-put_port : (f : ℕ → ℕ → Option ℕ) (t p : ℕ) (o : Option ℕ) (u q : ℕ) → put f t (put (f t) p o) u q ≡ cond (eqb u t && eqb q p) o (f u q)
+pub put_port : (f : ℕ → ℕ → Option ℕ) (t p : ℕ) (o : Option ℕ) (u q : ℕ) → put f t (put (f t) p o) u q ≡ cond (eqb u t && eqb q p) o (f u q)
 put_port f t p o u q = elim (cases_eq u t) [
   | inl e ↦ ap (λ (g : ℕ → Option ℕ). g q) (put_same f t (put (f t) p o) u e) ∙ ap (λ (k : ℕ). cond (eqb q p) o (f k q)) (sym e) ∙ sym (ap (λ (b : Bool). cond (b && eqb q p) o (f u q)) (eq-eqb u t e))
   | inr ne ↦ ap (λ (g : ℕ → Option ℕ). g q) (put_other f t (put (f t) p o) u ne) ∙ sym (ap (λ (b : Bool). cond (b && eqb q p) o (f u q)) (ne_eqb u t ne))

@@ -1,5 +1,5 @@
 -- What a call of a diagram promises: which rows it takes, what it does, and how the order of blocks changes.
-use Rattle.std.specs.Prelude.{◌≡◌, ℕ, Bool, true, false, not, List, [], ◌∷◌, ◌++◌, length, Some, None, Ok, Err, filter, Option, Result, ◌==◌, nat_le}
+use Rattle.std.specs.Prelude.{◌≡◌, ℕ, Bool, true, false, not, List, [], ◌∷◌, ◌++◌, length, Some, None, Ok, Err, filter, Option, Result, ◌==◌, nat_le, MatchResult}
 use Rattle.family.specs.Meaning.{Meaning}
 use Rattle.wiring.specs.Order.{NewOrder}
 use Rattle.wiring.specs.View.{layout}
@@ -9,7 +9,7 @@ use Rattle.refusal.specs.declared.refusals.Refusal.TheVariants.{RowTooShort}
 use Rattle.diagram.specs.declared.diagram.Diagram.{Diagram}
 use Rattle.diagram.specs.declared.token.ScanToken.{ScanToken}
 use Rattle.diagram.specs.Calls.{Call, place, remove, wire, cut, edit, solve, settle, Answer, ok, refused}
-use Rattle.diagram.specs.Chart.{slot, free}
+use Rattle.diagram.specs.Chart.{Chart, slot, free, first, checks}
 use Rattle.diagram.specs.World.{Does}
 use Rattle.diagram.specs.View.{chart, Lent, lent, world}
 
@@ -27,6 +27,10 @@ unless (Some r) a = Err r
 abbrev pub settled : {A : Type 0} → Result A (ScanToken × Refusal) → Answer
 settled (Ok a) = ok 0
 settled (Err e) = refused e.1
+
+-- the answer of a call's checks: P of what they give where none of them fails, and else the first refusal
+abbrev pub Checked : {R S A : Type 0} → Meaning R S → Call → Chart → (A → Type 0) → Result A Refusal → Type 0
+Checked m c k P r = MatchResult r (λ a. (first (checks m c k) ≡ None) × P a) (λ e. first (checks m c k) ≡ Some e)
 
 -- whether the rows that a call takes have an entry for each slot
 abbrev pub fits : {R S : Type 0} → Call → List R → List S → Bool

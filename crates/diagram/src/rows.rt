@@ -1,31 +1,13 @@
 //! One entry of a lent row.
-ghost use Rattle.std.specs.Prelude.{◌≡◌, ℕ, ◌≤◌, length, Some};
+ghost use Rattle.std.specs.Prelude.{◌≡◌, ℕ, ◌≤◌, length, Some, slice_index_or};
 ghost use Rattle.std.specs.List.{slice_get};
-ghost use Rattle.family.specs.Meaning.{meaning};
-ghost use Rattle.passes.specs.Rows.{put, row};
+ghost use Rattle.passes.specs.Rows.{put};
 
-use family::Family;
-
-// The record at a slot.
-pub(crate) fn read_record<F: Family>(records: &[F::Record], slot: u8) -> F::Record
-    requires { 256 ≤ length records.now }
-    ensures { slice_get records.now slot ≡ Some result }
+// Sets the entry of a slot.
+pub(crate) fn write<T: Copy>(row: &mut [T], slot: u8, entry: T)
+    requires { 256 ≤ length row.old }
+    ensures entry { (s : ℕ) → slice_get row.new s ≡ put (slice_get row.old) slot (Some entry) s }
+    ensures instead { (d : T) (s : ℕ) → slice_index_or row.new s d ≡ put (λ k. slice_index_or row.old k d) slot entry s }
 {
-    records[slot as usize]
-}
-
-// Sets the record at a slot.
-pub(crate) fn write_record<F: Family>(records: &mut [F::Record], slot: u8, block: F::Record)
-    requires { 256 ≤ length records.old }
-    ensures { (s : ℕ) → slice_get records.new s ≡ put (slice_get records.old) slot (Some block) s }
-{
-    records[slot as usize] = block;
-}
-
-// Sets the signal at a slot.
-pub(crate) fn write_signal<F: Family>(signals: &mut [F::Signal], slot: u8, signal: F::Signal)
-    requires { 256 ≤ length signals.old }
-    ensures { (s : ℕ) → row (meaning F.Family) signals.new s ≡ put (row (meaning F.Family) signals.old) slot signal s }
-{
-    signals[slot as usize] = signal;
+    row[slot as usize] = entry;
 }

@@ -1,14 +1,15 @@
 -- What a call that was made says of the scan.
-use Rattle.std.proofs.Common.{◌≡◌, ℕ, Bool, true, false, ◌⊎◌, [], ◌∷◌, is_some, Some, None, Option, sym, refl, ap, ◌∙◌, inl, inr, arith}
+use Rattle.std.proofs.Common.{◌≡◌, ℕ, Bool, true, false, ◌⊎◌, Some, None, Option, Ok, Err, Result, sym, refl, ap, ◌∙◌, inl, inr, arith}
+use Rattle.std.specs.Result.{IfErr, OnErr}
 use Rattle.family.specs.Meaning.{Meaning}
-use Rattle.passes.specs.Scan.{long}
 use Rattle.refusal.specs.declared.refusals.Refusal.{Refusal}
-use Rattle.refusal.specs.declared.refusals.Refusal.TheVariants.{RowTooShort, DiagramOpen, MakesRing}
-use Rattle.diagram.specs.Calls.{Call, solve, Answer, ok, refused}
-use Rattle.diagram.specs.Chart.{Chart, following, first, checks, charted, when}
+use Rattle.refusal.specs.declared.refusals.Refusal.TheVariants.{RowTooShort, MakesRing}
+use Rattle.diagram.specs.declared.token.ScanToken.{ScanToken}
+use Rattle.diagram.specs.Calls.{Call, Answer, ok, refused}
+use Rattle.diagram.specs.Chart.{Chart, first, checks, charted}
 use Rattle.diagram.specs.World.{Accepted, By, refusing}
 use Rattle.diagram.specs.View.{chart, Lent, world}
-use Rattle.diagram.specs.Made.{Made, fits}
+use Rattle.diagram.specs.Made.{Made, answer, fits, settled}
 
 ok_refused : (n : ℕ) (r : Refusal) → ok n ≡ refused r → ⊥
 ok_refused n r e = let z : ◌≡◌ {A = ℕ} 0 1 = cc in omega arith
@@ -42,47 +43,23 @@ made_cases m c x a y k = by_fit (fits c x.records x.signals) refl
     by_fit true e = go e (first (checks m c (chart x.diagram))) (refusing m c (world m x).records) refl (k.does e)
 
 -- a refused call leaves the diagram
-pub left : {F R S : Type 0} (m : Meaning R S) (c : Call) (x : Lent F R S) (r : Refusal) (y : Lent F R S) → Made m c x (refused r) y → chart y.diagram ≡ chart x.diagram
+left : {F R S : Type 0} (m : Meaning R S) (c : Call) (x : Lent F R S) (r : Refusal) (y : Lent F R S) → Made m c x (refused r) y → chart y.diagram ≡ chart x.diagram
 left m c x r y k = go (made_cases m c x (refused r) y k)
   where
     go : Barred x (refused r) y ⊎ Passed m c x (refused r) y → chart y.diagram ≡ chart x.diagram
     go (inl b) = b.same
     go (inr p) = absurd (ok_refused _ r (sym p.accepted.answer))
 
--- an accepted one passed
-passed : {F R S : Type 0} (m : Meaning R S) (c : Call) (x : Lent F R S) (n : ℕ) (y : Lent F R S) → Made m c x (ok n) y → Passed m c x (ok n) y
-passed m c x n y k = go (made_cases m c x (ok n) y k)
-  where
-    go : Barred x (ok n) y ⊎ Passed m c x (ok n) y → Passed m c x (ok n) y
-    go (inl b) = absurd (ok_refused n b.why b.answer)
-    go (inr p) = p
+-- the same, where a result tells the answer
+pub barred : {F R S A : Type 0} (m : Meaning R S) (c : Call) (x : Lent F R S) (f : A → ℕ) (r : Result A Refusal) (y : Lent F R S) → Made m c x (answer f r) y → OnErr r (chart y.diagram ≡ chart x.diagram)
+barred m c x f (Ok a) y k = tt
+barred m c x f (Err e) y k = left m c x e y k
 
-ok_same : (n k : ℕ) → ok n ≡ ok k → n ≡ k
-ok_same n k e = cc
-
-shut : (o : Option ℕ) → first (when (is_some o) DiagramOpen ∷ []) ≡ None → o ≡ None
-shut None e = refl
-shut (Some n) e = absurd (none_some (Some DiagramOpen) e refl)
-
--- a solve opens a scan
-pub record Opens {F R S : Type 0} (x : Lent F R S) (n : ℕ) (y : Lent F R S) : Type 0 where
-  pub before : (chart x.diagram).scan ≡ None
-  pub scan : (chart y.diagram).scan ≡ Some n
-  pub number : n ≡ following (chart x.diagram).scans
-  pub scans : (chart y.diagram).scans ≡ n
-  pub fit : long x.records x.signals ≡ true
-
-pub opens : {F R S : Type 0} (m : Meaning R S) (x : Lent F R S) (n : ℕ) (y : Lent F R S) → Made m solve x (ok n) y → Opens x n y
-opens m x n y k =
-    let p = passed m solve x n y k in
-    let e = ok_same n (following (chart x.diagram).scans) p.accepted.answer in
-    record {
-      before = shut (chart x.diagram).scan p.clear;
-      scan = ap (λ (c : Chart). c.scan) p.accepted.chart ∙ ap Some (sym e);
-      number = e;
-      scans = ap (λ (c : Chart). c.scans) p.accepted.chart ∙ sym e;
-      fit = p.fit;
-    }
+-- a refused settle gives its token back, and what the same chart has stands
+pub given_back : {F R S : Type 0} (m : Meaning R S) (c : Call) (x : Lent F R S) (r : Result (Unit {0}) (ScanToken × Refusal)) (y : Lent F R S) (t : ScanToken) {P : Type 0} → Made m c x (settled r) y → IfErr r (λ e. e.0 ≡ t)
+    → (chart y.diagram ≡ chart x.diagram → P) → IfErr r (λ e. (e.0 ≡ t) × P)
+given_back m c x (Ok a) y t k back f = tt
+given_back m c x (Err e) y t k back f = (back, f (left m c x e.1 y k))
 
 -- a call that opens and ends no scan leaves it
 pub keeps : {F R S : Type 0} (m : Meaning R S) (c : Call) (x : Lent F R S) (a : Answer) (y : Lent F R S) → ((h : Chart) → (charted m c h).scan ≡ h.scan) → Made m c x a y → (chart y.diagram).scan ≡ (chart x.diagram).scan

@@ -58,7 +58,7 @@ fn wears_out(
 ) {
     for generation in 1..=65_535u32 {
         let handle = generation * 256;
-        assert_eq!(rt; made(diagram, records, signals, IN), Ok(handle as i64));
+        assert_eq!(rt; made(diagram, records, signals, IN), Ok(i64::from(handle)));
         assert_eq!(rt;
             made(diagram, records, signals, Call::Remove(handle)),
             Ok(0)
@@ -89,7 +89,7 @@ fn fills(
     signals: &mut [i32],
 ) {
     for handle in 256..512u32 {
-        assert_eq!(rt; made(diagram, records, signals, SUM), Ok(handle as i64));
+        assert_eq!(rt; made(diagram, records, signals, SUM), Ok(i64::from(handle)));
     }
 }
 

@@ -1,5 +1,5 @@
 //! Open scans and their tokens.
-ghost use Rattle.std.specs.Prelude.{◌≡◌, true, Some, None, Ok, Err};
+ghost use Rattle.std.specs.Prelude.{◌≡◌, true, Some, None, OnOk, IfErr};
 ghost use Rattle.passes.specs.Scan.{long};
 ghost use Rattle.diagram.specs.Chart.{is_scan};
 ghost use Rattle.diagram.specs.View.{chart};
@@ -27,10 +27,7 @@ fn ended<F: Family>(
     requires open { (chart diagram.old).scan ≡ Some token.number }
     ensures { (chart diagram.new).scan ≡ None }
 {
-    match diagram.settle(records, signals, token) {
-        Ok(()) => {}
-        Err(_) => unreachable(),
-    }
+    diagram.settle(records, signals, token).unwrap();
 }
 
 // Settles, and says what becomes of the scan.
@@ -40,12 +37,10 @@ fn offered<F: Family>(
     signals: &[F::Signal],
     token: ScanToken,
 ) -> Result<(), (ScanToken, Refusal)>
-    ensures { elim result [ Ok _ ↦ is_scan (chart diagram.old).scan token.number ≡ true | Err e ↦ (e.0 ≡ token) × ((chart diagram.new).scan ≡ (chart diagram.old).scan) ] }
+    ensures ok { OnOk result (is_scan (chart diagram.old).scan token.number ≡ true) }
+    ensures err { IfErr result (λ e. (e.0 ≡ token) × ((chart diagram.new).scan ≡ (chart diagram.old).scan)) }
 {
-    match diagram.settle(records, signals, token) {
-        Ok(()) => Ok(()),
-        Err(refused) => Err(refused),
-    }
+    diagram.settle(records, signals, token)
 }
 
 // Solves and settles on two rows, and between the two makes calls on two others.
@@ -153,20 +148,12 @@ fn crosses(
                 ended(second, records, signals, other);
                 return Err(Fail::new("one number"));
             }
-            match offered(first, records, signals, other) {
-                Ok(()) => unreachable(),
-                Err((other, open)) => {
-                    ended(first, records, signals, token);
-                    match offered(first, records, signals, other) {
-                        Ok(()) => unreachable(),
-                        Err((other, shut)) => {
-                            ended(second, records, signals, other);
-                            assert_eq!(rt; (open, shut), (Refusal::WrongScan, Refusal::WrongScan));
-                            Ok(())
-                        }
-                    }
-                }
-            }
+            let (other, open) = offered(first, records, signals, other).unwrap_err();
+            ended(first, records, signals, token);
+            let (other, shut) = offered(first, records, signals, other).unwrap_err();
+            ended(second, records, signals, other);
+            assert_eq!(rt; (open, shut), (Refusal::WrongScan, Refusal::WrongScan));
+            Ok(())
         }
         Err(_) => {
             ended(first, records, signals, token);

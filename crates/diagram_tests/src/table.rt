@@ -28,22 +28,6 @@ pub(crate) enum Call {
     Show(u32),
 }
 
-// What a call with nothing to tell answers.
-fn done(answer: Result<(), Refusal>) -> Result<i64, Refusal> {
-    match answer {
-        Ok(()) => Ok(0),
-        Err(refusal) => Err(refusal),
-    }
-}
-
-// A number that was given.
-fn given(answer: Result<u32, Refusal>) -> Result<i64, Refusal> {
-    match answer {
-        Ok(n) => Ok(n as i64),
-        Err(refusal) => Err(refusal),
-    }
-}
-
 // Makes a call. Whether a scan is open, and which, stays.
 pub(crate) fn made<F: Family>(
     diagram: &mut Diagram<F>,
@@ -54,23 +38,19 @@ pub(crate) fn made<F: Family>(
     ensures { (chart diagram.new).scan ≡ (chart diagram.old).scan }
 {
     match call {
-        Call::Place(kind, p, q, r) => {
-            given(diagram.place(records, signals, kind, Params { p, q, r }))
-        }
-        Call::Remove(block) => done(diagram.remove(block)),
-        Call::Wire(target, port, source) => done(diagram.wire(target, port, source)),
-        Call::Cut(target, port) => done(diagram.cut(target, port)),
-        Call::Tune(block, p) => done(diagram.tune(records, block, Params { p, q: 0, r: 0 })),
-        Call::Feed(block, n) => done(diagram.feed(records, block, n)),
-        Call::Scan => given(scan_once(diagram, records, signals)),
-        Call::Rank(block) => match diagram.rank(block) {
-            Ok(rank) => Ok(rank as i64),
-            Err(refusal) => Err(refusal),
-        },
-        Call::Show(block) => match diagram.show(signals, block) {
-            Ok(n) => Ok(n as i64),
-            Err(refusal) => Err(refusal),
-        },
+        Call::Place(kind, p, q, r) => diagram
+            .place(records, signals, kind, Params { p, q, r })
+            .map(i64::from),
+        Call::Remove(block) => diagram.remove(block).map(|()| 0),
+        Call::Wire(target, port, source) => diagram.wire(target, port, source).map(|()| 0),
+        Call::Cut(target, port) => diagram.cut(target, port).map(|()| 0),
+        Call::Tune(block, p) => diagram
+            .tune(records, block, Params { p, q: 0, r: 0 })
+            .map(|()| 0),
+        Call::Feed(block, n) => diagram.feed(records, block, n).map(|()| 0),
+        Call::Scan => scan_once(diagram, records, signals).map(i64::from),
+        Call::Rank(block) => diagram.rank(block).map(i64::from),
+        Call::Show(block) => diagram.show(signals, block).map(i64::from),
     }
 }
 

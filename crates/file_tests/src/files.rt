@@ -43,8 +43,8 @@ fn checked_again(rt: HostRuntime) {
     assert_eq!(rt; checked.lines(), 1);
     assert_eq!(rt; checked.check(&[0; 16_385]), Err(Refusal::FileTooLong));
     let mut commands = checked.commands();
-    assert_eq!(rt; commands.next_command(), Some(Command::Show { name: b"c" }));
-    assert_eq!(rt; commands.next_command(), None);
+    assert_eq!(rt; commands.next(), Some(Command::Show { name: b"c" }));
+    assert_eq!(rt; commands.next(), None);
 }
 
 #[test]
@@ -52,10 +52,10 @@ fn line_by_line(rt: HostRuntime) {
     let mut checked = CheckedFile::empty();
     assert_eq!(rt; checked.check(b"show a\n\n# b\nscan 7\n"), Ok(()));
     let mut commands = checked.commands();
-    assert_eq!(rt; commands.next_command(), Some(Command::Show { name: b"a" }));
-    assert_eq!(rt; commands.next_command(), Some(Command::Nothing));
-    assert_eq!(rt; commands.next_command(), Some(Command::Nothing));
-    assert_eq!(rt; commands.next_command(), Some(Command::Scan { times: 7 }));
-    assert_eq!(rt; commands.next_command(), None);
-    assert_eq!(rt; commands.next_command(), None);
+    assert_eq!(rt; commands.next(), Some(Command::Show { name: b"a" }));
+    assert_eq!(rt; commands.next(), Some(Command::Nothing));
+    assert_eq!(rt; commands.next(), Some(Command::Nothing));
+    assert_eq!(rt; commands.next(), Some(Command::Scan { times: 7 }));
+    assert_eq!(rt; commands.next(), None);
+    assert_eq!(rt; commands.next(), None);
 }

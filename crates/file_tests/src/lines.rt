@@ -1,3 +1,4 @@
+use family::Params;
 use loop_file::{Command, command_of};
 use std::process::Abort;
 
@@ -24,9 +25,7 @@ fn meanings(rt: HostRuntime) {
         Some(Command::Block {
             name: b"a",
             kind: b"pid",
-            p: -1,
-            q: 2,
-            r: 0,
+            params: Params { p: -1, q: 2, r: 0 },
         })
     );
     assert_eq!(rt;
@@ -49,9 +48,11 @@ fn meanings(rt: HostRuntime) {
         command_of(b"tune a 1 -2 9999999"),
         Some(Command::Tune {
             name: b"a",
-            p: 1,
-            q: -2,
-            r: 9_999_999,
+            params: Params {
+                p: 1,
+                q: -2,
+                r: 9_999_999,
+            },
         })
     );
     assert_eq!(rt;

@@ -6,17 +6,11 @@ use interlock_blocks::Interlocks;
 use session::fresh_interlocks;
 use std::io;
 
+// The code of the kind `in`.
+const IN: u8 = 1;
+
 fn main(rt: HostRuntime) -> io::Result<()> {
-    let mut file = [0u8; 16385];
-    let mut reply = [0u8; 32768];
-    let mut records = [Interlocks::fresh(1, Params { p: 0, q: 0, r: 0 }); 256];
-    let mut signals = [false; 256];
-    console::answer(
-        rt,
-        &mut fresh_interlocks(),
-        &mut records,
-        &mut signals,
-        &mut file,
-        &mut reply,
-    )
+    let mut records = [Interlocks::fresh(IN, Params { p: 0, q: 0, r: 0 }); 256];
+    let mut signals = [Interlocks::rest(); 256];
+    console::answer(rt, &mut fresh_interlocks(), &mut records, &mut signals)
 }

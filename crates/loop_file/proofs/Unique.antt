@@ -1,10 +1,11 @@
 -- No line says two orders: the order can be had back from its words.
 use Rattle.std.proofs.Common.{◌≡◌, ℕ, zero, suc, ◌≤◌, false, cond, eqb, List, [], ◌∷◌, map, length, get_or, drop, ℤ, pos, negsuc, neg_ℤ, nat_abs, decimal, sym, refl, ap, ◌∙◌, inl, inr, arith}
 use Rattle.std.specs.Fmt.{signed_decimal}
+use Rattle.std.specs.Str.Parse.{digits_value}
 use Rattle.std.proofs.lemmas.Fmt.{digits_value-decimal}
 use Rattle.std.proofs.lemmas.Bool.Decides.{nat_tests}
 use Rattle.words.specs.Parts.{words_of}
-use Rattle.words.proofs.Numerals.{read_on, own, decimal_first}
+use Rattle.words.proofs.Numerals.{own, decimal_first}
 use Rattle.loop_file.specs.declared.verb.Verb.{Verb}
 use Rattle.loop_file.specs.declared.verb.Verb.TheVariants.{Block, Wire, Cut, Drop, Tune, Feed, Scan, Show}
 use Rattle.loop_file.specs.Lines.{spaced, Idle, OneOrder}
@@ -15,13 +16,13 @@ use Rattle.loop_file.proofs.Verbs.{first, verb, spells}
 
 -- the number of a numeral
 abbrev number_of : List ℕ → ℤ
-number_of bs = cond (eqb (get_or bs 0 0) 45) (neg_ℤ (pos (read_on 0 (drop 1 bs)))) (pos (read_on 0 bs))
+number_of bs = cond (eqb (get_or bs 0 0) 45) (neg_ℤ (pos (digits_value 10 (drop 1 bs)))) (pos (digits_value 10 bs))
 
 number_back : (z : ℤ) → Number z → number_of (signed_decimal z) ≡ z
 number_back (pos n) h =
     let k = decimal_first n h in
     let e : eqb (get_or (decimal n) 0 0) 45 ≡ false = grind (arith, nat_tests) in
-    ap (λ v. cond v (neg_ℤ (pos (read_on 0 (drop 1 (decimal n))))) (pos (read_on 0 (decimal n)))) e ∙ ap pos (digits_value-decimal own n (omega arith))
+    ap (λ v. cond v (neg_ℤ (pos (digits_value 10 (drop 1 (decimal n))))) (pos (digits_value 10 (decimal n)))) e ∙ ap pos (digits_value-decimal own n (omega arith))
 number_back (negsuc n) h = ap (λ m. neg_ℤ (pos m)) (digits_value-decimal own (suc n) (omega arith))
 
 -- a number without a sign

@@ -1,11 +1,11 @@
 //! A file that a check has accepted.
-ghost use Rattle.std.specs.Prelude.{◌≡◌, length, Ok, Err};
+ghost use Rattle.std.specs.Prelude.{◌≡◌, length, MatchResult};
 ghost use Rattle.words.specs.Parts.{lines_of};
-ghost use Rattle.loop_file.specs.Ahead.{lines_ahead};
+ghost use Rattle.words.specs.Left.{lines_left};
 ghost use Rattle.loop_file.specs.Files.{FitsFile, Refused, NoneUnfit};
 
 use crate::commands::Commands;
-use crate::lines::{count_lines, no_lines};
+use crate::lines::count_lines;
 use refusal::Refusal;
 
 /// It holds only what its check accepted, and is used up by a run.
@@ -19,27 +19,23 @@ pub struct CheckedFile<'a> {
 
 impl<'a> CheckedFile<'a> {
     /// The file of no bytes.
+    #[tactic(auto, using(crate::proofs::Turns::no_lines))]
     pub fn empty() -> CheckedFile<'a>
         ensures { (length result.bytes.now ≡ 0) × (result.lines ≡ 0) }
     {
-        let bytes: &'a [u8] = &[];
         CheckedFile {
-            bytes,
-            lines: no_lines(bytes),
+            bytes: &[],
+            lines: 0,
         }
     }
 
     /// Takes a file over where it fits, and else stays as it was.
     pub fn check(&mut self, file: &'a [u8]) -> Result<(), Refusal>
-        ensures { elim result [ Ok _ ↦ FitsFile file.now × (self.new.bytes.now ≡ file.now) × (self.new.lines ≡ length (lines_of file.now)) | Err e ↦ Refused file.now e × (self.new ≡ self.old) ] }
+        ensures { MatchResult result (λ _. FitsFile file.now × (self.new.bytes.now ≡ file.now) × (self.new.lines ≡ length (lines_of file.now))) (λ e. Refused file.now e × (self.new ≡ self.old)) }
     {
-        match count_lines(file) {
-            Ok(lines) => {
-                *self = CheckedFile { bytes: file, lines };
-                Ok(())
-            }
-            Err(refusal) => Err(refusal),
-        }
+        let lines = count_lines(file)?;
+        *self = CheckedFile { bytes: file, lines };
+        Ok(())
     }
 
     /// How many lines the file has.
@@ -51,9 +47,9 @@ impl<'a> CheckedFile<'a> {
 
     /// The commands of the file, line by line.
     pub fn commands(self) -> Commands<'a>
-        ensures { lines_ahead result.reader ≡ lines_of self.entry.bytes.now }
+        ensures { lines_left result.lines ≡ lines_of self.entry.bytes.now }
     {
         let CheckedFile { bytes, lines: _ } = self;
-        Commands::new(bytes)
+        Commands::of(bytes)
     }
 }

@@ -1,51 +1,53 @@
 //! The closing line.
-ghost use Rattle.std.specs.Prelude.{◌≡◌, ◌<◌, ◌≤◌, [], ◌∷◌, ◌++◌, length, Ok, Err, codes, decimal};
+ghost use Rattle.std.specs.Prelude.{◌≡◌, ◌<◌, length, Ok, Err, MatchResult};
 ghost use Rattle.refusal.specs.declared.refusals.Refusal.TheVariants.{BufferTooShort};
 ghost use Rattle.loop_file.specs.Closing.{closing, Wrote};
 
-use crate::outcome::Outcome;
-use crate::put::{put, put_decimal};
+use crate::put::put;
+use crate::stop::Stop;
+use arrayvec::ArrayString;
+use itoa::Buffer;
 use refusal::Refusal;
 
 /// Writes the closing line at the start of a buffer, and gives its length.
-pub fn close(outcome: Outcome, buffer: &mut [u8]) -> Result<usize, Refusal>
-    ensures { elim result [ Ok n ↦ Wrote buffer.old 0 (closing outcome) buffer.new n | Err e ↦ (e ≡ BufferTooShort) × (length buffer.old < length (closing outcome)) × (buffer.new ≡ buffer.old) ] }
+pub fn close(outcome: Result<u32, Stop>, buffer: &mut [u8]) -> Result<usize, Refusal>
+    ensures { MatchResult result (λ n. Wrote buffer.old 0 (closing outcome) buffer.new n) (λ e. (e ≡ BufferTooShort) × (length buffer.old < length (closing outcome)) × (buffer.new ≡ buffer.old)) }
 {
-    let mut line = [0u8; 32];
-    let n = write(&mut line, outcome);
-    if n > buffer.len() {
+    let line = closing_line(outcome);
+    if line.len() > buffer.len() {
         return Err(Refusal::BufferTooShort);
     }
-    Ok(put(buffer, 0, &line[0..n]))
+    Ok(put(buffer, 0, line.as_bytes()))
 }
 
-// Writes the closing line into a buffer that is long enough for any.
-fn write(line: &mut [u8], outcome: Outcome) -> usize
-    requires { length line.old ≡ 32 }
-    ensures { (Wrote line.old 0 (closing outcome) line.new result) × (result ≤ 32) }
+// The line.
+fn closing_line(outcome: Result<u32, Stop>) -> ArrayString<20>
+    ensures { result.bytes ≡ closing outcome }
 {
     match outcome {
-        Outcome::Ended { lines } => write_end(line, lines),
-        Outcome::Stopped { line: at, refusal } => write_stop(line, at, refusal.number()),
+        Ok(lines) => end_line(lines),
+        Err(stop) => stop_line(stop),
     }
 }
 
-fn write_end(line: &mut [u8], lines: u32) -> usize
-    requires { length line.old ≡ 32 }
-    ensures { (Wrote line.old 0 (codes "end " ++ decimal lines ++ (10 ∷ [])) line.new result) × (result ≤ 32) }
+fn end_line(lines: u32) -> ArrayString<20>
+    ensures { result.bytes ≡ closing (Ok lines) }
 {
-    let n = put(line, 0, b"end ");
-    let n = put_decimal(line, n, lines);
-    put(line, n, b"\n")
+    let mut line = ArrayString::new();
+    line.push_str("end ");
+    line.push_str(Buffer::new().format(lines));
+    line.push_str("\n");
+    line
 }
 
-fn write_stop(line: &mut [u8], at: u32, number: u8) -> usize
-    requires { length line.old ≡ 32 }
-    ensures { (Wrote line.old 0 (codes "stop " ++ decimal at ++ codes " " ++ decimal number ++ (10 ∷ [])) line.new result) × (result ≤ 32) }
+fn stop_line(stop: Stop) -> ArrayString<20>
+    ensures { result.bytes ≡ closing (Err stop) }
 {
-    let n = put(line, 0, b"stop ");
-    let n = put_decimal(line, n, at);
-    let n = put(line, n, b" ");
-    let n = put_decimal(line, n, number as u32);
-    put(line, n, b"\n")
+    let mut line = ArrayString::new();
+    line.push_str("stop ");
+    line.push_str(Buffer::new().format(stop.line));
+    line.push_str(" ");
+    line.push_str(Buffer::new().format(stop.refusal.number()));
+    line.push_str("\n");
+    line
 }

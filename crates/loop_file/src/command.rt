@@ -1,4 +1,6 @@
 //! What a line of a loop file says. The names are parts of the file.
+use family::Params;
+
 #[derive(Clone, Copy, PartialEq, Debug)]
 pub enum Command<'a> {
     // An empty line or a comment.
@@ -6,9 +8,7 @@ pub enum Command<'a> {
     Block {
         name: &'a [u8],
         kind: &'a [u8],
-        p: i32,
-        q: i32,
-        r: i32,
+        params: Params,
     },
     Wire {
         target: &'a [u8],
@@ -24,9 +24,7 @@ pub enum Command<'a> {
     },
     Tune {
         name: &'a [u8],
-        p: i32,
-        q: i32,
-        r: i32,
+        params: Params,
     },
     Feed {
         name: &'a [u8],

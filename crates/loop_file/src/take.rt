@@ -1,50 +1,56 @@
 //! Takes the next word of a line, where it is what is asked for.
-ghost use Rattle.std.specs.Prelude.{◌≡◌, ℕ, ◌≤◌, List, [], ◌∷◌, ℤ, Some, None, decimal, Decides};
+ghost use Rattle.std.specs.Prelude.{◌≡◌, ℕ, ◌≤◌, List, [], ◌∷◌, ℤ, decimal, ◌≢◌, MatchOption};
 ghost use Rattle.std.specs.Fmt.{signed_decimal};
+ghost use Rattle.words.specs.Left.{words_left};
 ghost use Rattle.words.specs.Names.{IsName};
 ghost use Rattle.loop_file.specs.Orders.{Number, Numbers};
-ghost use Rattle.loop_file.specs.Ahead.{ahead, Took, NotTaken};
+ghost use Rattle.loop_file.specs.Ahead.{Took, NotTaken};
 
-use words::{Reader, Word};
+use family::Params;
+use words::{Word, Words};
 
 // The next word, where it is a name.
-pub(crate) fn name_word<'a>(words: &mut Reader<'a>) -> Option<&'a [u8]>
-    ensures { elim result [ Some n ↦ (ahead words.old ≡ n.now ∷ ahead words.new) × IsName n.now | None ↦ ((w : List ℕ) (ws : List (List ℕ)) → ahead words.old ≡ w ∷ ws → IsName w → ⊥) ] }
+pub(crate) fn name_word<'a>(words: &mut Words<'a>) -> Option<&'a [u8]>
+    ensures { MatchOption result ((w : List ℕ) (ws : List (List ℕ)) → words_left words.old ≡ w ∷ ws → IsName w → ⊥) (λ n. (words_left words.old ≡ n.now ∷ words_left words.new) × IsName n.now) }
 {
-    let Some(word) = words.next_word() else {
-        return None;
-    };
-    let Word::Name(name) = Word::of(word) else {
-        return None;
-    };
+    match Word::of(words.next()?) {
+        Word::Name(name) => Some(name),
+        _ => None,
+    }
+}
+
+// The next word, where it is a name and the last word.
+pub(crate) fn only_name<'a>(words: &mut Words<'a>) -> Option<&'a [u8]>
+    ensures { MatchOption result ((w : List ℕ) → words_left words.old ≡ w ∷ [] → IsName w → ⊥) (λ n. (words_left words.old ≡ n.now ∷ []) × IsName n.now) }
+{
+    let name = name_word(words)?;
+    no_more(words)?;
     Some(name)
 }
 
-// The number of the next word.
-pub(crate) fn number_word(words: &mut Reader) -> Option<i32>
-    ensures { elim result [ Some z ↦ (ahead words.old ≡ signed_decimal z ∷ ahead words.new) × Number z | None ↦ ((z : ℤ) (ws : List (List ℕ)) → ahead words.old ≡ signed_decimal z ∷ ws → Number z → ⊥) ] }
+// The number of a word.
+fn number_of(word: &[u8]) -> Option<i32>
+    ensures { MatchOption result ((z : ℤ) → word.now ≡ signed_decimal z → Number z → ⊥) (λ z. (word.now ≡ signed_decimal z) × Number z) }
 {
-    let Some(word) = words.next_word() else {
-        return None;
-    };
-    let Word::Number(z) = Word::of(word) else {
-        return None;
-    };
-    Some(z)
+    match Word::of(word) {
+        Word::Number(z) => Some(z),
+        _ => None,
+    }
+}
+
+// The number of the next word.
+pub(crate) fn number_word(words: &mut Words) -> Option<i32>
+    ensures { MatchOption result ((z : ℤ) (ws : List (List ℕ)) → words_left words.old ≡ signed_decimal z ∷ ws → Number z → ⊥) (λ z. (words_left words.old ≡ signed_decimal z ∷ words_left words.new) × Number z) }
+{
+    number_of(words.next()?)
 }
 
 // The number of the next word, where it is from low to high.
-pub(crate) fn number_among(words: &mut Reader, low: u32, high: u32) -> Option<u32>
+pub(crate) fn number_among(words: &mut Words, low: u32, high: u32) -> Option<u32>
     requires { high ≤ 9999999 }
-    ensures { elim result [ Some n ↦ (ahead words.old ≡ decimal n ∷ ahead words.new) × (low ≤ n) × (n ≤ high) | None ↦ ((n : ℕ) (ws : List (List ℕ)) → ahead words.old ≡ decimal n ∷ ws → low ≤ n → n ≤ high → ⊥) ] }
+    ensures { MatchOption result ((n : ℕ) (ws : List (List ℕ)) → words_left words.old ≡ decimal n ∷ ws → low ≤ n → n ≤ high → ⊥) (λ n. (words_left words.old ≡ decimal n ∷ words_left words.new) × (low ≤ n) × (n ≤ high)) }
 {
-    let Some(z) = number_word(words) else {
-        return None;
-    };
-    if z < 0 {
-        return None;
-    }
-    let n = z as u32;
+    let n = u32::try_from(number_word(words)?).ok()?;
     if n < low || n > high {
         return None;
     }
@@ -52,40 +58,26 @@ pub(crate) fn number_among(words: &mut Reader, low: u32, high: u32) -> Option<u3
 }
 
 // The number of the next word, or 0 where no word is left.
-fn number_or_zero(words: &mut Reader) -> Option<i32>
-    ensures { elim result [ Some z ↦ Took (ahead words.old) z (ahead words.new) | None ↦ NotTaken (ahead words.old) ] }
+fn number_or_zero(words: &mut Words) -> Option<i32>
+    ensures { MatchOption result (NotTaken (words_left words.old)) (λ z. Took (words_left words.old) z (words_left words.new)) }
 {
-    let Some(word) = words.next_word() else {
-        return Some(0);
-    };
-    let Word::Number(z) = Word::of(word) else {
-        return None;
-    };
-    Some(z)
+    words.next().map_or(Some(0), number_of)
 }
 
 // The numbers of all words that are left, which are at most three; a missing one is 0.
-pub(crate) fn up_to_three(words: &mut Reader) -> Option<(i32, i32, i32)>
-    ensures { elim result [ Some t ↦ Numbers (ahead words.old) t.0 t.1 t.2 × Number t.0 × Number t.1 × Number t.2 | None ↦ ((p q r : ℤ) → Numbers (ahead words.old) p q r → Number p → Number q → Number r → ⊥) ] }
+pub(crate) fn up_to_three(words: &mut Words) -> Option<Params>
+    ensures { MatchOption result ((p q r : ℤ) → Numbers (words_left words.old) p q r → Number p → Number q → Number r → ⊥) (λ t. Numbers (words_left words.old) t.p t.q t.r × Number t.p × Number t.q × Number t.r) }
 {
-    let Some(p) = number_or_zero(words) else {
-        return None;
-    };
-    let Some(q) = number_or_zero(words) else {
-        return None;
-    };
-    let Some(r) = number_or_zero(words) else {
-        return None;
-    };
-    if !no_more(words) {
-        return None;
-    }
-    Some((p, q, r))
+    let p = number_or_zero(words)?;
+    let q = number_or_zero(words)?;
+    let r = number_or_zero(words)?;
+    no_more(words)?;
+    Some(Params { p, q, r })
 }
 
-// Whether no word is left.
-pub(crate) fn no_more(words: &mut Reader) -> bool
-    ensures { Decides result (ahead words.old ≡ []) }
+// Nothing, where no word is left.
+pub(crate) fn no_more(words: &mut Words) -> Option<()>
+    ensures { MatchOption result (words_left words.old ≢ []) (λ _. words_left words.old ≡ []) }
 {
-    words.next_word().is_none()
+    words.next().is_none().then_some(())
 }

@@ -1,5 +1,5 @@
 //! The first word of a command.
-ghost use Rattle.std.specs.Prelude.{◌≡◌, Some, None, Decides, ◌≢◌};
+ghost use Rattle.std.specs.Prelude.{◌≡◌, MatchOption, ◌≢◌};
 ghost use Rattle.loop_file.specs.Verbs.{spelled};
 
 #[derive(Clone, Copy)]
@@ -17,39 +17,18 @@ pub(crate) enum Verb {
 impl Verb {
     // The verb that a word spells.
     pub(crate) fn of(word: &[u8]) -> Option<Verb>
-        ensures { elim result [ Some v ↦ word.now ≡ spelled v | None ↦ ((v : Verb) → word.now ≢ spelled v) ] }
+        ensures { MatchOption result ((v : Verb) → word.now ≢ spelled v) (λ v. word.now ≡ spelled v) }
     {
-        if same(word, b"block") {
-            return Some(Verb::Block);
+        match word {
+            b"block" => Some(Verb::Block),
+            b"wire" => Some(Verb::Wire),
+            b"cut" => Some(Verb::Cut),
+            b"drop" => Some(Verb::Drop),
+            b"tune" => Some(Verb::Tune),
+            b"feed" => Some(Verb::Feed),
+            b"scan" => Some(Verb::Scan),
+            b"show" => Some(Verb::Show),
+            _ => None,
         }
-        if same(word, b"wire") {
-            return Some(Verb::Wire);
-        }
-        if same(word, b"cut") {
-            return Some(Verb::Cut);
-        }
-        if same(word, b"drop") {
-            return Some(Verb::Drop);
-        }
-        if same(word, b"tune") {
-            return Some(Verb::Tune);
-        }
-        if same(word, b"feed") {
-            return Some(Verb::Feed);
-        }
-        if same(word, b"scan") {
-            return Some(Verb::Scan);
-        }
-        if same(word, b"show") {
-            return Some(Verb::Show);
-        }
-        None
     }
-}
-
-// Whether the two are the same bytes.
-fn same(a: &[u8], b: &[u8]) -> bool
-    ensures { Decides result (a.now ≡ b.now) }
-{
-    a == b
 }

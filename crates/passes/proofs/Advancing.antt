@@ -1,12 +1,11 @@
 -- A settle on its way: the records of the blocks passed so far.
-use Rattle.std.proofs.Common.{◌≡◌, ℕ, zero, suc, ◌+◌, ◌<◌, ◌≤◌, Bool, true, false, cond, ◌||◌, eqb, List, [], ◌∷◌, length, get_or, take, set, Some, sym, refl, ap, ◌∙◌, inl, inr, add-one, arith, length-set}
+use Rattle.std.proofs.Common.{◌≡◌, ℕ, zero, suc, ◌+◌, ◌<◌, Bool, true, false, cond, ◌||◌, eqb, List, [], ◌∷◌, length, get_or, take, set, Some, sym, refl, ap, ◌∙◌, inl, inr, add-one, arith, length-set}
 use Rattle.std.specs.List.{slice_get}
-use Rattle.std.proofs.lemmas.List.{take_all}
 use Rattle.std.proofs.lemmas.Bool.{cases_eq, cond-true, cond-false, eq-eqb, ne_eqb, or_right, or_from}
 use Rattle.family.specs.Meaning.{Meaning}
 use Rattle.wiring.specs.Layout.{Layout, member}
 use Rattle.passes.specs.Rows.{on_some, row}
-use Rattle.passes.specs.Scan.{inputs_of, advanced, Settles}
+use Rattle.passes.specs.Scan.{inputs_of, advanced}
 use Rattle.passes.proofs.Rows.{slice_get-put, put_same, put_other}
 
 -- the first i + 1 of a list have the one at i, and else those of the first i
@@ -39,9 +38,6 @@ module _ {R S : Type 0} (m : Meaning R S) (l : Layout) (signals : List S) (befor
     pub size : length cur ≡ length before
     pub records : (s : ℕ) → slice_get cur s ≡ advanced m l.source (row m signals) (member (take i l.order)) (slice_get before) s
 
-  pub advance_none : Advancing before 0
-  advance_none = record { size = refl; records = λ s. refl }
-
   -- one more block, at the slot of rank i
   pub advance_more : (cur : List R) (i slot : ℕ) (r q : R) → slot ≡ get_or l.order i 0 → i < length l.order → slot < length cur
       → ((k j : ℕ) → k < j → j < length l.order → get_or l.order k 0 ≡ get_or l.order j 0 → ⊥)
@@ -60,10 +56,3 @@ module _ {R S : Type 0} (m : Meaning R S) (l : Layout) (signals : List S) (befor
               ∙ ap (λ (b : Bool). cond b (on_some (brought s) (slice_get before s)) (slice_get before s)) (sym (rw add-one (member_there l.order i s (λ e. ne (e ∙ sym at)))))
         ]);
       }
-
-  -- all blocks are done
-  pub advance_all : (cur : List R) (i : ℕ) → length l.order ≤ i → Advancing cur i → Settles m l signals before cur
-  advance_all cur i high was = record {
-    size = was.size;
-    records = λ s. was.records s ∙ ap (λ (xs : List ℕ). advanced m l.source (row m signals) (member xs) (slice_get before) s) (take_all i l.order high);
-  }

@@ -1,5 +1,5 @@
 -- A solve on its way: what is left to sweep gives the whole.
-use Rattle.std.proofs.Common.{◌≡◌, ℕ, ◌+◌, ◌<◌, ◌≤◌, List, ◌∷◌, length, get_or, drop, set, Some, Option, sym, refl, ap, ◌∙◌, add-one, length-set, drop-cons}
+use Rattle.std.proofs.Common.{◌≡◌, ℕ, ◌+◌, ◌<◌, ◌≤◌, List, ◌∷◌, length, get_or, drop, set, Some, Option, sym, ap, ◌∙◌, add-one, length-set, drop-cons}
 use mathlib.Core.Path.{fun_ext}
 use Rattle.std.specs.List.{slice_get}
 use Rattle.std.proofs.lemmas.List.{drop_all}
@@ -14,9 +14,6 @@ module _ {R S : Type 0} (m : Meaning R S) (l : Layout) (records : List R) (befor
   pub record Sweeping (cur : List S) (i : ℕ) : Type 0 where
     pub size : length cur ≡ length before
     pub left : (s : ℕ) → swept m l.source (slice_get records) (drop i l.order) (row m cur) s ≡ swept m l.source (slice_get records) l.order (row m before) s
-
-  pub sweep_none : Sweeping before 0
-  sweep_none = record { size = refl; left = λ s. refl }
 
   -- one more block, at the slot of rank i
   pub sweep_more : (cur : List S) (i slot : ℕ) (r : R) (v : S) → slot ≡ get_or l.order i 0 → i < length l.order → slot < length cur → slice_get records slot ≡ Some r

@@ -1,15 +1,25 @@
 //! The refusals in words, for people.
+ghost use Rattle.std.specs.Prelude.{◌≡◌, Some};
+ghost use Rattle.refusal.specs.Sentences.{words};
+
 use crate::refusals::Refusal;
+use std::error::Error;
 use std::fmt;
 
 impl fmt::Display for Refusal {
+    ghost output = { λ refusal. Some (words refusal) };
+
     fn fmt<W: fmt::Write>(&self, f: &mut fmt::Formatter<W>) -> fmt::Result {
         f.write_str(words(*self))
     }
 }
 
+impl Error for Refusal {}
+
 // A refusal in words.
-fn words(refusal: Refusal) -> &'static str {
+fn words(refusal: Refusal) -> &'static str
+    ensures { result.now ≡ words refusal }
+{
     match refusal {
         Refusal::FileTooLong => "the file has more than 16,384 bytes",
         Refusal::BadLine(_) => "the line does not fit the grammar",

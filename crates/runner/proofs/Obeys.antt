@@ -1,19 +1,22 @@
 -- What a line's own function promises, as what a line does at a desk.
-use Rattle.std.proofs.Common.{◌≡◌, ℕ, ◌≤◌, Bool, true, false, List, [], ◌∷◌, ◌++◌, length, take, drop, is_some, Some, None, Ok, Err, Option, Result, sym, refl, ap, ◌∙◌, subst, ap₂, arith}
-use Rattle.std.proofs.lemmas.Bool.{both_ways}
+use Rattle.std.proofs.Common.{◌≡◌, ℕ, ◌≤◌, true, List, [], ◌∷◌, ◌++◌, length, take, drop, Some, None, Ok, Err, Option, Result, sym, refl, ap, ◌∙◌, subst, ap₂, arith}
 use Rattle.family.specs.Meaning.{Meaning}
 use Rattle.refusal.specs.declared.refusals.Refusal.{Refusal}
-use Rattle.refusal.specs.declared.refusals.Refusal.TheVariants.{DiagramOpen}
 use Rattle.diagram.specs.Calls.{Call, refused, Event}
-use Rattle.diagram.specs.Chart.{when, first}
+use Rattle.diagram.specs.Chart.{first}
 use Rattle.diagram.specs.Made.{answer}
-use Rattle.diagram.specs.View.{chart, Lent}
+use Rattle.diagram.specs.View.{Lent}
 use Rattle.loop_file.specs.Orders.{Order, nothing, block, wire, cut, remove, tune, feed, scan, show}
 use Rattle.runner.specs.declared.names.Names.{Names}
-use Rattle.runner.specs.Desks.{desk_of, verdict, place, staying}
-use Rattle.runner.specs.Lines.{Desk, Under, shown_of, line_checks, call_of, Showing, Showed}
+use Rattle.runner.specs.Desks.{desk_of, verdict, place}
+use Rattle.runner.specs.Lines.{Desk, Under, Tried, shown_of, line_checks, call_of, Showing, Showed}
 use Rattle.runner.specs.Runs.{why, NamesAfter, Doing, Obeyed}
-use Rattle.runner.specs.Scans.{event, rows_fit, Scanned, ScanLine}
+use Rattle.runner.specs.Scans.{event, rows_fit}
+
+-- the answer of a line that adds nothing to the reply
+abbrev pub staying : {A : Type 0} → Result A Refusal → ℕ → Result ℕ Refusal
+staying (Ok a) at = Ok at
+staying (Err e) at = Err e
 
 -- a refused line leaves the names
 names_left : (o : Order) (e : Refusal) (t t' : Names) → NamesAfter o (refused e) t t' → t' ≡ t
@@ -37,7 +40,7 @@ module _ {F R S A : Type 0} (m : Meaning R S) (f : A → ℕ) where
   done None c o x l t' r rows u n = (event m c (answer f r) l ∷ [], (answer f r, record { rows = rows; made = u; events = refl; verdict = refl; said = refl }, n))
 
   -- at a desk whose reply stands in a buffer
-  pub stays : (o : Order) (c : Call) (k : Lent F R S) (t : Names) (reply : List ℕ) (at : ℕ) (r : Result A Refusal) (l : Lent F R S) (t' : Names) → call_of m o (desk_of k t reply at) ≡ Some c → at ≤ length reply → rows_fit k ≡ true
+  stays : (o : Order) (c : Call) (k : Lent F R S) (t : Names) (reply : List ℕ) (at : ℕ) (r : Result A Refusal) (l : Lent F R S) (t' : Names) → call_of m o (desk_of k t reply at) ≡ Some c → at ≤ length reply → rows_fit k ≡ true
       → Under m (first (line_checks m o (desk_of k t reply at))) (Some c) f k r l → NamesAfter o (answer f r) t t' → Obeyed m o k t reply at (staying r at) l t' reply
   stays o c k t reply at (Ok a) l t' is low rows u n =
       let x = desk_of k t reply at in
@@ -48,45 +51,14 @@ module _ {F R S A : Type 0} (m : Meaning R S) (f : A → ℕ) where
       let w = done (first (line_checks m o x)) c o x l t' (Err e) rows u n in
       record { events = w.0; line = (refl, subst (λ (d : Option Call). Doing m (first (line_checks m o x)) d o x w.0 (Some e) (desk_of l t' reply at)) (sym is) w.1); rest = refl; up = omega arith; within = low }
 
+  -- a line that stands for a call and adds nothing to the reply, by another name of its order and of its answer
+  pub by_call : (o o' : Order) (c : Call) (k : Lent F R S) (t : Names) (reply : List ℕ) (at : ℕ) (r : Result A Refusal) (s : Result ℕ Refusal) (l : Lent F R S) (t' : Names) → o' ≡ o → s ≡ staying r at → call_of m o (desk_of k t reply at) ≡ Some c → at ≤ length reply → rows_fit k ≡ true
+      → Tried m f o (desk_of k t reply at) r l → NamesAfter o (answer f r) t t' → Obeyed m o' k t reply at s l t' reply
+  by_call o o' c k t reply at r s l t' p q is low rows u n =
+      let v : Under m (first (line_checks m o (desk_of k t reply at))) (Some c) f k r l = subst (λ (d : Option Call). Under m (first (line_checks m o (desk_of k t reply at))) d f k r l) is u in
+      subst (λ (x : Order). Obeyed m x k t reply at s l t' reply) (sym p) (subst (λ (x : Result ℕ Refusal). Obeyed m o k t reply at x l t' reply) (sym q) (stays o c k t reply at r l t' is low rows v n))
+
 module _ {F R S : Type 0} (m : Meaning R S) (k : Lent F R S) (t : Names) where
-  -- the same by another name of the order and of the answer
-  pub as_said : (o o' : Order) (old : List ℕ) (at : ℕ) (r r' : Result ℕ Refusal) (l : Lent F R S) (t' : Names) (new : List ℕ) → o ≡ o' → r ≡ r' → Obeyed m o' k t old at r' l t' new → Obeyed m o k t old at r l t' new
-  as_said o o' old at r r' l t' new p q b =
-      subst (λ (x : Order). Obeyed m x k t old at r l t' new) (sym p) (subst (λ (x : Result ℕ Refusal). Obeyed m o' k t old at x l t' new) (sym q) b)
-
-  -- a line that does nothing
-  pub rests : (reply : List ℕ) (at : ℕ) → at ≤ length reply → Obeyed m nothing k t reply at (Ok at) k t reply
-  rests reply at low = record { events = []; line = (refl, (refl, refl, refl)); rest = refl; up = omega arith; within = low }
-
-  -- a `scan` line that was let through
-  scans : (busy : Bool) (n : ℕ) (l : Lent F R S) (x y : Desk F R S) (es : List (Event S)) → busy ≡ false → Scanned m x.lent n es y.lent → y.names ≡ x.names → y.said ≡ x.said
-      → Doing m (first (when busy DiagramOpen ∷ [])) None (scan n) x es None y
-  scans true n l x y es shut s p q = absurd (both_ways true shut refl)
-  scans false n l x y es shut s p q = (s, refl, p, q)
-
-  -- one that was not
-  scans_not : (busy : Bool) (n : ℕ) (x : Desk F R S) (y : Desk F R S) → busy ≡ true → y ≡ x → Doing m (first (when busy DiagramOpen ∷ [])) None (scan n) x [] (Some DiagramOpen) y
-  scans_not true n x y on e = (refl, refl, e)
-  scans_not false n x y on e = absurd (both_ways false refl on)
-
-  -- a `scan` line
-  pub scan_line : {A : Type 0} (n : ℕ) (reply : List ℕ) (at : ℕ) (r : Result A Refusal) (l : Lent F R S) → at ≤ length reply
-      → ScanLine m k n r l
-      → Obeyed m (scan n) k t reply at (staying r at) l t reply
-  scan_line n reply at (Ok a) l low b =
-      record { events = b.1.0; line = (refl, scans (is_some (chart k.diagram).scan) n l (desk_of k t reply at) (desk_of l t reply at) b.1.0 b.0 b.1.1 refl refl); rest = refl; up = omega arith; within = low }
-  scan_line n reply at (Err e) l low b = record {
-    events = [];
-    line = (
-      refl,
-      subst (λ (q : Refusal). Doing m (first (when (is_some (chart k.diagram).scan) DiagramOpen ∷ [])) None (scan n) (desk_of k t reply at) [] (Some q) (desk_of l t reply at)) (sym b.1)
-          (scans_not (is_some (chart k.diagram).scan) n (desk_of k t reply at) (desk_of l t reply at) b.0 (ap (λ (q : Lent F R S). desk_of q t reply at) b.2)),
-    );
-    rest = refl;
-    up = omega arith;
-    within = low;
-  }
-
   -- a `show` line, by the check that stops it
   shows : (e : Option Refusal) (n text old : List ℕ) (at : ℕ) (r : Result ℕ Refusal) (new : List ℕ) → text ≡ shown_of m (desk_of k t old at) n → at ≤ length old → length new ≡ length old → Showing e text old at r new
       → (Doing m e None (show n) (desk_of k t old at) [] (verdict r) (desk_of k t new (place at r))) × (drop (place at r) new ≡ drop (place at r) old) × (at ≤ place at r) × (place at r ≤ length new)
@@ -101,7 +73,11 @@ module _ {F R S : Type 0} (m : Meaning R S) (k : Lent F R S) (t : Names) where
   shows None n text old at (Err e) new is low same s = absurd s
 
   -- a `show` line
-  pub show_line : (n old : List ℕ) (at : ℕ) (r : Result ℕ Refusal) (new : List ℕ) → at ≤ length old → length new ≡ length old → Showed m n (desk_of k t old at) old at r new → Obeyed m (show n) k t old at r k t new
+  show_line : (n old : List ℕ) (at : ℕ) (r : Result ℕ Refusal) (new : List ℕ) → at ≤ length old → length new ≡ length old → Showed m n (desk_of k t old at) old at r new → Obeyed m (show n) k t old at r k t new
   show_line n old at r new low same s =
       let w = shows (first (line_checks m (show n) (desk_of k t old at))) n (shown_of m (desk_of k t old at) n) old at r new refl low same s in
       record { events = []; line = (same, w.0); rest = w.1; up = w.2; within = w.3 }
+
+  -- the same, by another name of its order
+  pub by_show : (o : Order) (n old : List ℕ) (at : ℕ) (r : Result ℕ Refusal) (new : List ℕ) → o ≡ show n → at ≤ length old → length new ≡ length old → Showed m n (desk_of k t old at) old at r new → Obeyed m o k t old at r k t new
+  by_show o n old at r new p low same s = subst (λ (x : Order). Obeyed m x k t old at r k t new) (sym p) (show_line n old at r new low same s)

@@ -1,5 +1,5 @@
 -- The calls of a run go on with a session.
-use Rattle.std.proofs.Common.{◌≡◌, ℕ, true, leb, List, [], ◌∷◌, ◌++◌, length, Some, None, Option, sym, refl, ap, subst, append_assoc}
+use Rattle.std.proofs.Common.{◌≡◌, ℕ, true, leb, List, [], ◌∷◌, ◌++◌, length, Some, None, Option, Result, sym, refl, ap, subst, append_assoc}
 use Rattle.std.proofs.lemmas.Bool.{and_parts}
 use Rattle.family.specs.Meaning.{Meaning}
 use Rattle.refusal.specs.declared.refusals.Refusal.{Refusal}
@@ -9,7 +9,7 @@ use Rattle.diagram.specs.Chart.{first}
 use Rattle.diagram.specs.Made.{Made, fits}
 use Rattle.diagram.specs.View.{Lent, world}
 use Rattle.session.specs.Begun.{LentSession, then}
-use Rattle.loop_file.specs.declared.outcome.Outcome.{Outcome}
+use Rattle.loop_file.specs.declared.stop.Stop.{Stop}
 use Rattle.loop_file.specs.Orders.{Order, nothing, block, wire, cut, remove, tune, feed, scan, show}
 use Rattle.runner.specs.Lines.{Desk, line_checks, call_of}
 use Rattle.runner.specs.Runs.{Doing, Followed, start, next, RunOf, ended, stopped}
@@ -64,7 +64,7 @@ module _ {F R S : Type 0} (m : Meaning R S) where
       (did (first (line_checks m o w)) (call_of m o w) o w y hs (gs ++ fs) None did_line.1 (followed x w _ gs fs before s))
 
   -- a run
-  pub counted : (lines : List (List ℕ)) (x y : Desk F R S) (es fs : List (Event S)) (outcome : Outcome) → RunOf m lines x es outcome y → LentSession m fs (world m x.lent) → LentSession m (es ++ fs) (world m y.lent)
+  pub counted : (lines : List (List ℕ)) (x y : Desk F R S) (es fs : List (Event S)) (outcome : Result ℕ Stop) → RunOf m lines x es outcome y → LentSession m fs (world m x.lent) → LentSession m (es ++ fs) (world m y.lent)
   counted lines x y es fs outcome (ended all) s = followed x y lines es fs all s
   counted lines x y es fs outcome (stopped {es = gs} {y = w} before after line o hs r is so_far says did_line) s =
       subst (λ (q : List (Event S)). LentSession m q (world m y.lent)) (sym (append_assoc hs gs fs))

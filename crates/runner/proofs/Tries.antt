@@ -4,7 +4,7 @@ use Rattle.std.proofs.lemmas.Bool.{both_ways}
 use Rattle.family.specs.Meaning.{Meaning}
 use Rattle.passes.specs.Rows.{or_else}
 use Rattle.refusal.specs.declared.refusals.Refusal.{Refusal}
-use Rattle.refusal.specs.declared.refusals.Refusal.TheVariants.{DiagramOpen, UnknownName, NameInUse, UnknownKind}
+use Rattle.refusal.specs.declared.refusals.Refusal.TheVariants.{DiagramOpen, UnknownName}
 use Rattle.diagram.specs.Calls.{Call}
 use Rattle.diagram.specs.Chart.{when, first}
 use Rattle.diagram.specs.Made.{Made, answer}
@@ -26,11 +26,3 @@ module _ {F R S A : Type 0} (m : Meaning R S) (f : A → ℕ) (k : Lent F R S) (
   two_names false None p g h shut is is' c made = absurd (both_ways false refl (ap is_some is))
   two_names false (Some a) None g h shut is is' c made = absurd (both_ways false refl (ap is_some is'))
   two_names false (Some a) (Some b) g h shut is is' c made = subst (λ (i : ℕ). Made m (c i b) k (answer f r) l) (sym (ap (or_else 0) is)) (subst (λ (i : ℕ). Made m (c g i) k (answer f r) l) (sym (ap (or_else 0) is')) made)
-
-  -- a line with a new name, where no scan is open, the name is not in use and the word is that of the kind n
-  pub new_name : (busy : Bool) (used word : Option ℕ) (n : ℕ) → busy ≡ false → is_some used ≡ false → word ≡ Some n → (c : ℕ → Call) → Made m (c n) k (answer f r) l
-      → Under m (first (when busy DiagramOpen ∷ when (is_some used) NameInUse ∷ when (not (is_some word)) UnknownKind ∷ [])) (Some (c (or_else 0 word))) f k r l
-  new_name true used word n shut free is c made = absurd (both_ways true shut refl)
-  new_name false (Some h) word n shut free is c made = absurd (both_ways true free refl)
-  new_name false None None n shut free is c made = absurd (both_ways false refl (ap is_some is))
-  new_name false None (Some g) n shut free is c made = subst (λ (i : ℕ). Made m (c i) k (answer f r) l) (sym (ap (or_else 0) is)) made

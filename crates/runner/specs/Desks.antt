@@ -25,11 +25,6 @@ abbrev pub place : ℕ → Result ℕ Refusal → ℕ
 place at (Ok on) = on
 place at (Err e) = at
 
--- the answer of a line that adds nothing to the reply
-abbrev pub staying : {A : Type 0} → Result A Refusal → ℕ → Result ℕ Refusal
-staying (Ok a) at = Ok at
-staying (Err e) at = Err e
-
 -- a new name has at most 12 bytes
 abbrev pub Short : Order → Type 0
 Short nothing = 0 ≤ 12

@@ -1,5 +1,5 @@
 -- What a line does at a desk, and what a run of a file's lines does.
-use Rattle.std.specs.Prelude.{◌≡◌, ℕ, ◌+◌, ◌≤◌, true, List, [], ◌∷◌, ◌++◌, length, drop, Some, None, Option, Result}
+use Rattle.std.specs.Prelude.{◌≡◌, ℕ, ◌+◌, ◌≤◌, true, List, [], ◌∷◌, ◌++◌, length, drop, Some, None, Ok, Err, Option, Result}
 use Rattle.family.specs.Meaning.{Meaning}
 use Rattle.refusal.specs.declared.refusals.Refusal.{Refusal}
 use Rattle.diagram.specs.Calls.{Call, Answer, ok, refused, Event}
@@ -7,14 +7,17 @@ use Rattle.diagram.specs.Chart.{first}
 use Rattle.diagram.specs.Made.{Made}
 use Rattle.diagram.specs.View.{Lent, world}
 use Rattle.session.specs.Begun.{LentSession}
-use Rattle.loop_file.specs.declared.outcome.Outcome.{Outcome}
-use Rattle.loop_file.specs.declared.outcome.Outcome.TheVariants.{Ended, Stopped}
+use Rattle.loop_file.specs.declared.stop.Stop.{Stop}
 use Rattle.loop_file.specs.Lines.{Says}
 use Rattle.loop_file.specs.Orders.{Order, nothing, block, wire, cut, remove, tune, feed, scan, show}
 use Rattle.runner.specs.declared.names.Names.{Names}
 use Rattle.runner.specs.Lines.{Desk, shown_of, line_checks, call_of, Entered}
 use Rattle.runner.specs.Desks.{desk_of, verdict, place}
 use Rattle.runner.specs.Scans.{event, rows_fit, Scanned}
+
+-- a run that was stopped at a line
+abbrev pub stopped_at : ℕ → Refusal → Result ℕ Stop
+stopped_at line refusal = Err (record { line = line; refusal = refusal })
 
 -- why a call is refused, if it is
 abbrev pub why : Answer → Option Refusal
@@ -79,13 +82,13 @@ module _ {F R S : Type 0} (m : Meaning R S) where
         → Followed x (lines ++ (line ∷ [])) (fs ++ es) z
 
   -- a run of the lines: every one was followed, or those before one that was refused
-  pub data RunOf (lines : List (List ℕ)) (x : Desk F R S) : List (Event S) → Outcome → Desk F R S → Type 0 where
-    ended : {es : List (Event S)} {y : Desk F R S} → Followed x lines es y → RunOf lines x es (Ended (length lines)) y
+  pub data RunOf (lines : List (List ℕ)) (x : Desk F R S) : List (Event S) → Result ℕ Stop → Desk F R S → Type 0 where
+    ended : {es : List (Event S)} {y : Desk F R S} → Followed x lines es y → RunOf lines x es (Ok (length lines)) y
     stopped : {es : List (Event S)} {y z : Desk F R S} (before after : List (List ℕ)) (line : List ℕ) (o : Order) (fs : List (Event S)) (r : Refusal) → lines ≡ before ++ (line ∷ after)
-        → Followed x before es y → Says line o → Line o y fs (Some r) z → RunOf lines x (fs ++ es) (Stopped (length before + 1) r) z
+        → Followed x before es y → Says line o → Line o y fs (Some r) z → RunOf lines x (fs ++ es) (stopped_at (length before + 1) r) z
 
   -- a run, with the events of its calls; in a session it counts as these
-  pub record Ran (lines : List (List ℕ)) (x : Desk F R S) (outcome : Outcome) (y : Desk F R S) : Type 0 where
+  pub record Ran (lines : List (List ℕ)) (x : Desk F R S) (outcome : Result ℕ Stop) (y : Desk F R S) : Type 0 where
     pub events : List (Event S)
     pub run : RunOf lines x events outcome y
     pub counts : (es : List (Event S)) → LentSession m es (world m x.lent) → LentSession m (events ++ es) (world m y.lent)

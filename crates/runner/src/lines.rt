@@ -1,5 +1,5 @@
 //! What each line does: one function to a command.
-ghost use Rattle.std.specs.Prelude.{◌≡◌, ℕ, ◌≤◌, true, false, List, length, take, is_some, Some, None, Ok, Err};
+ghost use Rattle.std.specs.Prelude.{◌≡◌, ℕ, ◌≤◌, true, false, List, length, take, is_some, Some, MatchResult};
 ghost use Rattle.family.specs.Meaning.{meaning};
 ghost use Rattle.passes.specs.Rows.{row};
 ghost use Rattle.diagram.specs.Chart.{names, slot};
@@ -19,15 +19,12 @@ use refusal::Refusal;
 
 // The handle that a name stands for, where no scan is open.
 fn handle_of<F: Family>(diagram: &Diagram<F>, names: &Names, name: &[u8]) -> Result<u32, Refusal>
-    ensures { elim result [ Ok h ↦ (is_some (chart diagram.now).scan ≡ false) × (found (chart diagram.now) (book names.now) name.now ≡ Some h) | Err e ↦ NotNamed (is_some (chart diagram.now).scan) (found (chart diagram.now) (book names.now) name.now) e ] }
+    ensures { MatchResult result (λ h. (is_some (chart diagram.now).scan ≡ false) × (found (chart diagram.now) (book names.now) name.now ≡ Some h)) (λ e. NotNamed (is_some (chart diagram.now).scan) (found (chart diagram.now) (book names.now) name.now) e) }
 {
     if diagram.is_open() {
         return Err(Refusal::DiagramOpen);
     }
-    let Some(handle) = names.find(diagram, name) else {
-        return Err(Refusal::UnknownName);
-    };
-    Ok(handle)
+    names.find(diagram, name).ok_or(Refusal::UnknownName)
 }
 
 // A `wire` line.
@@ -41,9 +38,7 @@ pub(crate) fn wire<F: Family>(
     ensures { (records : List F.Record) (signals : List F.Signal) (said : List ℕ) (room : ℕ) → Tried (meaning F.Family) (λ _. 0) (wire_line target.now port source.now) (desk diagram.old records signals names.now said room) result (lent diagram.new records signals) }
 {
     let to = handle_of(diagram, names, target)?;
-    let Some(from) = names.find(diagram, source) else {
-        return Err(Refusal::UnknownName);
-    };
+    let from = names.find(diagram, source).ok_or(Refusal::UnknownName)?;
     diagram.wire(to, port, from)
 }
 
@@ -120,9 +115,7 @@ pub(crate) fn block<F: Family>(
     if names.find(diagram, name).is_some() {
         return Err(Refusal::NameInUse);
     }
-    let Some(code) = F::word(kind) else {
-        return Err(Refusal::UnknownKind);
-    };
+    let code = F::word(kind).ok_or(Refusal::UnknownKind)?;
     let handle = diagram.place(records, signals, code, params)?;
     names.keep(handle, name);
     Ok(handle)
@@ -141,9 +134,7 @@ pub(crate) fn show<F: Family>(
     requires at { at ≤ length reply.old }
     ensures { (records : List F.Record) → Showed (meaning F.Family) name.now (desk diagram.now records signals.now names.now (take at reply.old) (length reply.old)) reply.old at result reply.new }
 {
-    let Some(handle) = names.find(diagram, name) else {
-        return Err(Refusal::UnknownName);
-    };
+    let handle = names.find(diagram, name).ok_or(Refusal::UnknownName)?;
     write_shown(reply, at, name, number_at(diagram, signals, handle))
 }
 
@@ -153,8 +144,5 @@ fn number_at<F: Family>(diagram: &Diagram<F>, signals: &[F::Signal], handle: u32
     requires signals { 256 ≤ length signals.now }
     ensures { result ≡ (meaning F.Family).number (row (meaning F.Family) signals.now (slot handle)) }
 {
-    match diagram.show(signals, handle) {
-        Ok(number) => number,
-        Err(_) => unreachable(),
-    }
+    diagram.show(signals, handle).unwrap()
 }

@@ -4,14 +4,14 @@ ghost use Rattle.family.specs.Meaning.{meaning};
 ghost use Rattle.passes.specs.Scan.{long};
 ghost use Rattle.diagram.specs.View.{lent};
 ghost use Rattle.loop_file.specs.Lines.{order};
-ghost use Rattle.runner.specs.Desks.{Short, staying};
+ghost use Rattle.runner.specs.Desks.{Short};
 ghost use Rattle.runner.specs.Runs.{Obeyed};
 
 use crate::lines::{block, cut, feed, remove, show, tune, wire};
 use crate::names::Names;
 use crate::scans::scan;
 use diagram::Diagram;
-use family::{Family, Params};
+use family::Family;
 use loop_file::Command;
 use refusal::Refusal;
 
@@ -32,47 +32,21 @@ pub(crate) fn obey<F: Family>(
 {
     match command {
         Command::Nothing => Ok(at),
-        Command::Block {
-            name,
-            kind,
-            p,
-            q,
-            r,
-        } => stay(
-            block(
-                diagram,
-                names,
-                records,
-                signals,
-                name,
-                kind,
-                Params { p, q, r },
-            ),
-            at,
-        ),
+        Command::Block { name, kind, params } => {
+            block(diagram, names, records, signals, name, kind, params).map(|_| at)
+        }
         Command::Wire {
             target,
             port,
             source,
-        } => stay(wire(diagram, names, target, port, source), at),
-        Command::Cut { target, port } => stay(cut(diagram, names, target, port), at),
-        Command::Drop { name } => stay(remove(diagram, names, name), at),
-        Command::Tune { name, p, q, r } => stay(
-            tune(diagram, names, records, name, Params { p, q, r }),
-            at,
-        ),
-        Command::Feed { name, number } => stay(feed(diagram, names, records, name, number), at),
-        Command::Scan { times } => stay(scan(diagram, records, signals, times), at),
+        } => wire(diagram, names, target, port, source).map(|()| at),
+        Command::Cut { target, port } => cut(diagram, names, target, port).map(|()| at),
+        Command::Drop { name } => remove(diagram, names, name).map(|()| at),
+        Command::Tune { name, params } => {
+            tune(diagram, names, records, name, params).map(|()| at)
+        }
+        Command::Feed { name, number } => feed(diagram, names, records, name, number).map(|()| at),
+        Command::Scan { times } => scan(diagram, records, signals, times).map(|()| at),
         Command::Show { name } => show(diagram, names, signals, reply, at, name),
-    }
-}
-
-// The place of the reply, where nothing was added to it.
-fn stay<T: Copy>(done: Result<T, Refusal>, at: usize) -> Result<usize, Refusal>
-    ensures { result ≡ staying done at }
-{
-    match done {
-        Ok(_) => Ok(at),
-        Err(refusal) => Err(refusal),
     }
 }

@@ -4,7 +4,7 @@ ghost use Rattle.family.specs.Meaning.{meaning};
 ghost use Rattle.passes.specs.Scan.{long};
 ghost use Rattle.words.specs.Parts.{lines_of};
 ghost use Rattle.diagram.specs.View.{lent};
-ghost use Rattle.loop_file.specs.Ahead.{lines_ahead};
+ghost use Rattle.words.specs.Left.{lines_left};
 ghost use Rattle.runner.specs.Reports.{Reported, Worked};
 
 use crate::names::Names;
@@ -12,7 +12,7 @@ use crate::obey::obey;
 use crate::report::Report;
 use diagram::Diagram;
 use family::Family;
-use loop_file::{CheckedFile, Commands, Outcome};
+use loop_file::{CheckedFile, Commands, Stop};
 use passes::are_long;
 use refusal::Refusal;
 
@@ -30,10 +30,10 @@ pub fn run<F: Family>(
     if !are_long::<F>(records, signals) {
         return Report {
             written: 0,
-            outcome: Outcome::Stopped {
+            outcome: Err(Stop {
                 line: 0,
                 refusal: Refusal::RowTooShort,
-            },
+            }),
         };
     }
     let lines = file.lines();
@@ -50,7 +50,7 @@ pub fn run<F: Family>(
 
 // Runs the lines that are ahead.
 fn follow<F: Family>(
-    mut commands: Commands<'_>,
+    commands: Commands<'_>,
     lines: u32,
     diagram: &mut Diagram<F>,
     names: &mut Names,
@@ -58,26 +58,25 @@ fn follow<F: Family>(
     signals: &mut [F::Signal],
     reply: &mut [u8],
 ) -> Report
-    requires count { lines ≡ length (lines_ahead commands.reader) }
+    requires count { lines ≡ length (lines_left commands.lines) }
     requires rows { long records.old signals.old ≡ true }
-    ensures { Worked (meaning F.Family) (lines_ahead commands.entry.reader) (lent diagram.old records.old signals.old) names.old reply.old result (lent diagram.new records.new signals.new) names.new reply.new }
+    ensures { Worked (meaning F.Family) (lines_left commands.entry.lines) (lent diagram.old records.old signals.old) names.old reply.old result (lent diagram.new records.new signals.new) names.new reply.new }
 {
-    let mut line = 0;
     let mut written = 0;
-    while let Some(command) = commands.next_command() {
-        line += 1;
+    for (before, command) in commands.enumerate() {
         match obey(command, diagram, names, records, signals, reply, written) {
             Ok(on) => written = on,
             Err(refusal) => {
+                let line = before as u32 + 1;
                 return Report {
                     written,
-                    outcome: Outcome::Stopped { line, refusal },
+                    outcome: Err(Stop { line, refusal }),
                 };
             }
         }
     }
     Report {
         written,
-        outcome: Outcome::Ended { lines },
+        outcome: Ok(lines),
     }
 }

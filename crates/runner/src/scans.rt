@@ -39,11 +39,6 @@ fn scan_once<F: Family>(
     ensures scan { OneScan (meaning F.Family) (lent diagram.old records.old signals.old) (lent diagram.new records.new signals.new) }
     ensures shut { is_some (chart diagram.new).scan ≡ false }
 {
-    match diagram.solve(records, signals) {
-        Ok(token) => match diagram.settle(records, signals, token) {
-            Ok(()) => {}
-            Err(_) => unreachable(),
-        },
-        Err(_) => unreachable(),
-    }
+    let token = diagram.solve(records, signals).unwrap();
+    diagram.settle(records, signals, token).unwrap();
 }

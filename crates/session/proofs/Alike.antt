@@ -6,8 +6,8 @@ use Rattle.diagram.specs.Calls.{Event, stirs, Lawful}
 use Rattle.diagram.specs.Chart.{Chart, names, empty}
 use Rattle.diagram.specs.World.{World, Does}
 use Rattle.session.specs.Plan.{planned, plan, Wake}
-use Rattle.session.specs.Law.{others}
-use Rattle.session.specs.Begun.{Long, LentSession, start, then, LentConfinement}
+use Rattle.session.specs.Law.{others, Confinement}
+use Rattle.session.specs.Begun.{Long, LentSession, start, then}
 use Rattle.session.proofs.Steps.{coherent}
 use Rattle.session.proofs.Solving.{stands}
 use Rattle.session.proofs.Wakes.{Twin, both, stir_left, stir_right}
@@ -85,7 +85,7 @@ module _ {R S : Type 0} (m : Meaning R S) (lawful : Lawful m) (h : ℕ) where
     | inr not_mine ↦ meet gs w w' e s does (then e s does sig) (λ fs v t same. twins gs w s fs v t same) fs v t (sym (other_in h e gs not_mine) ∙ same)
   ]
 
-pub confinement : {R S : Type 0} (m : Meaning R S) → Lawful m → LentConfinement m
+pub confinement : {R S : Type 0} (m : Meaning R S) → Lawful m → Confinement m (World R S) (λ w. w.signals) (LentSession m)
 confinement m lawful h es fs w v s t same k r block out =
     let twin = twins m lawful h es w s fs v t same in
     (sym (twin.blocks k out) ∙ block, twin.signals k (stands m (plan m es) w (coherent m lawful es w s) k r block).0 out)

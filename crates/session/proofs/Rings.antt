@@ -10,8 +10,8 @@ use Rattle.diagram.specs.Calls.{wire, Answer, ok, refused, Lawful}
 use Rattle.diagram.specs.Chart.{Chart, slot, handle, names, charted, first, checks}
 use Rattle.diagram.specs.World.{World, DirectSlots, Does}
 use Rattle.session.specs.Plan.{Plan, Direct, grown, planned, plan}
-use Rattle.session.specs.Law.{Passes}
-use Rattle.session.specs.Begun.{then, LentRings}
+use Rattle.session.specs.Law.{Passes, Rings}
+use Rattle.session.specs.Begun.{then, LentSession}
 use Rattle.passes.proofs.Rows.{put_same, put_other}
 use Rattle.session.proofs.Base.{none_some, some_same, some_is, named, names_handle, slot_handle, check_from}
 use Rattle.session.proofs.Coherent.{Coherent, block_in, source_in}
@@ -105,6 +105,6 @@ module _ {R S : Type 0} (m : Meaning R S) (lawful : Lawful m) where
         ]
       ]
 
-  pub rings : LentRings m
+  pub rings : Rings m (World R S) (λ w. w.signals) (LentSession m)
   rings es e v (then {w} f s does same) t p k c ps =
       wire_verdict (plan m es) w v f.answer t p k (coherent m lawful es w s) (subst (λ x. Does m x w f.answer v) c does) ps

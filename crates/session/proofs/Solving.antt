@@ -10,8 +10,8 @@ use Rattle.diagram.specs.Calls.{solve, ok, Lawful}
 use Rattle.diagram.specs.Chart.{Chart, slot, handle, names}
 use Rattle.diagram.specs.World.{World, signalled, Does}
 use Rattle.session.specs.Plan.{Plan, Equation, Wired, grown, planned, plan}
-use Rattle.session.specs.Law.{OneSolution}
-use Rattle.session.specs.Begun.{then, LentSolution}
+use Rattle.session.specs.Law.{OneSolution, Solution}
+use Rattle.session.specs.Begun.{then, LentSession}
 use Rattle.session.proofs.Base.{none_some, some_is, slot_small, named, names_handle, slot_handle, ok_refused}
 use Rattle.session.proofs.Coherent.{Coherent, block_in, block_out, source_in, source_out, carried_same}
 use Rattle.session.proofs.Sweep.{late_law_at, swept_solves}
@@ -109,7 +109,7 @@ module _ {R S : Type 0} (m : Meaning R S) (lawful : Lawful m) where
       let e = solved_plan m P w is lawful σ (λ k. same k ∙ solve_accepted w v n does k) in
       record { equations = e; only = λ τ t h r b. only_one m P w is lawful τ (λ k. σ (slot k)) t e h r b }
 
-  pub solution : LentSolution m
+  pub solution : Solution m (World R S) (λ w. w.signals) (LentSession m)
   solution es e v (then {w} f s does same) n c a =
       let P = plan m es in
       let d = subst (λ x. Does m x w f.answer v) c does in

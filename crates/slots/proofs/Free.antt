@@ -3,7 +3,7 @@ use Rattle.std.proofs.Common.{◌≡◌, ℕ, zero, suc, ◌<◌, ◌≤◌, Boo
 use Rattle.std.proofs.lemmas.Bool.{cases_lt, cond-true, cond-false, lt-ltb, le-ltb}
 use Rattle.slots.specs.declared.slots.Slots.{Slots}
 use Rattle.slots.specs.Ledger.{free_of}
-use Rattle.slots.specs.Tables.{stack, Idle, Old, Unused}
+use Rattle.slots.specs.Tables.{placed_in, stack, Idle, Old, Unused}
 use Rattle.slots.specs.View.{ledger}
 
 -- from the tables
@@ -25,4 +25,4 @@ free_of_stack placed freed (suc n) used idle old unused span s e =
 
 -- it is empty, and one of the 256
 pub free_empty : (d : Slots) (s : ℕ) → free_of (ledger d).freed (ledger d).used ≡ Some s → ((ledger d).placed s ≡ false) × (s < 256)
-free_empty d = free_of_stack d.placed d.freed d.count d.used d.idle d.been_used d.unused d.span
+free_empty d = free_of_stack (placed_in d.table) d.freed d.count d.used d.idle d.been_used d.unused d.span

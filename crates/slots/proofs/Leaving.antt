@@ -2,7 +2,7 @@
 use Rattle.std.proofs.Common.{◌≡◌, ℕ, zero, suc, ◌+◌, ◌<◌, ◌≤◌, Bool, true, false, ◌≢◌, List, ◌∷◌, length, get_or, set, sym, refl, ap, ◌∙◌, subst, inl, inr, add-one, arith}
 use Rattle.std.proofs.lemmas.List.{get_or-set_same, get_or-set_other}
 use Rattle.std.proofs.lemmas.Bool.{cases_eq, cases_lt, both_ways}
-use Rattle.slots.specs.Tables.{stack, Idle, Apart, Unused, Untouched, Young, Spare}
+use Rattle.slots.specs.Tables.{stack, Idle, Unused, Untouched, Young, Spare}
 
 -- a slot with a block has been used
 pub was_used : (placed : List Bool) (used s : ℕ) → Unused placed used → get_or placed s false ≡ true → s < used
@@ -41,20 +41,6 @@ module _ (freed : List ℕ) (count slot : ℕ) (room : count < length freed) whe
 
   below_is : (i : ℕ) → i ≢ count → get_or (set freed count slot) i 0 ≡ get_or freed i 0
   below_is i ne = get_or-set_other freed count i slot 0 ne
-
-  -- what holds of the slot and of all on the stack holds of all on the new stack
-  pub on_stack : (P : ℕ → Type 0) → P slot → ((i : ℕ) → i < count → P (get_or freed i 0)) → (i : ℕ) → i < count + 1 → P (get_or (set freed count slot) i 0)
-  on_stack P new was i l = elim (cases_eq i count) [
-    | inl e ↦ subst P (sym (top_is i e)) new
-    | inr ne ↦ subst P (sym (below_is i ne)) (was i (omega arith))
-  ]
-
-  -- the slots on the stack stay different
-  pub apart_more : ((i : ℕ) → i < count → get_or freed i 0 ≡ slot → ⊥) → Apart freed count → Apart (set freed count slot) (count + 1)
-  apart_more new was i j l e = elim (cases_eq j count) [
-    | inl s ↦ new i (omega (arith, l.0)) (sym (below_is i (λ k. absurd (omega (arith, l.0)))) ∙ e ∙ top_is j s)
-    | inr ne ↦ was i j (l.0, omega (arith, l.1)) (sym (below_is i (λ k. absurd (omega (arith, l.0, l.1)))) ∙ e ∙ below_is j ne)
-  ]
 
   -- below the top nothing changes
   stack_below : (n : ℕ) → n ≤ count → stack (set freed count slot) n ≡ stack freed n

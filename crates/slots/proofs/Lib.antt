@@ -1,3 +1,4 @@
+mod Table
 mod Trues
 mod Fresh
 mod Taking

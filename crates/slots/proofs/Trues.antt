@@ -1,7 +1,7 @@
 -- Counting what is true, and the stack of freed slots.
-use Rattle.std.proofs.Common.{◌≡◌, ℕ, zero, suc, ◌-◌, ◌<◌, Bool, true, false, List, [], ◌∷◌, length, get_or, set, Some, refl, ap, arith}
+use Rattle.std.proofs.Common.{◌≡◌, ℕ, zero, suc, ◌-◌, ◌<◌, Bool, true, false, List, [], ◌∷◌, length, get_or, set, refl, ap, arith}
 use Rattle.std.proofs.lemmas.Bool.{both_ways}
-use Rattle.slots.specs.Ledger.{free_of, fewer, more}
+use Rattle.slots.specs.Ledger.{fewer, more}
 use Rattle.slots.specs.Tables.{trues, stack}
 
 -- one more is true
@@ -19,11 +19,6 @@ trues_off (true ∷ xs) zero e = refl
 trues_off (false ∷ xs) zero e = absurd (both_ways _ refl e)
 trues_off (true ∷ xs) (suc s) e = ap suc (trues_off xs s e)
 trues_off (false ∷ xs) (suc s) e = trues_off xs s e
-
--- the top of the stack is what is free
-pub top_free : (freed : List ℕ) (count used : ℕ) → 0 < count → free_of (stack freed count) used ≡ Some (get_or freed (count - 1) 0)
-top_free freed zero used h = absurd (omega arith)
-top_free freed (suc n) used h = ap (λ (i : ℕ). Some (get_or freed i 0)) (let e : n ≡ suc n - 1 = omega arith in e)
 
 -- the stack without its top
 pub stack_fewer : (freed : List ℕ) (count used : ℕ) → 0 < count → (stack freed (count - 1) ≡ fewer (stack freed count)) × (used ≡ more (stack freed count) used)

@@ -1,5 +1,14 @@
 -- What the tables of slots keep.
-use Rattle.std.specs.Prelude.{◌≡◌, ℕ, zero, suc, ◌<◌, ◌≤◌, Bool, true, false, cond, ◌≢◌, List, [], ◌∷◌, slice_index, slice_index_or}
+use Rattle.std.specs.Prelude.{◌≡◌, ℕ, zero, suc, ◌<◌, ◌≤◌, Bool, true, false, cond, ◌≢◌, List, [], ◌∷◌, map, slice_index, slice_index_or}
+use Rattle.slots.specs.declared.slot.Slot.{Slot}
+
+-- of each slot: whether a block stands there
+abbrev pub placed_in : List Slot → List Bool
+placed_in table = map (λ s. s.placed) table
+
+-- and how often it was emptied
+abbrev pub emptied_in : List Slot → List ℕ
+emptied_in table = map (λ s. s.emptied) table
 
 -- how many are true
 abbrev pub trues : List Bool → ℕ

@@ -1,6 +1,8 @@
 //! The table of slots.
 ghost use Rattle.std.specs.Prelude.{◌+◌, ◌≤◌};
-ghost use Rattle.slots.specs.Tables.{trues, Idle, Old, Apart, Unused, Untouched, Young, Spare};
+ghost use Rattle.slots.specs.Tables.{placed_in, emptied_in, trues, Idle, Old, Apart, Unused, Untouched, Young, Spare};
+
+use crate::slot::Slot;
 
 mod calls;
 
@@ -8,18 +10,17 @@ mod calls;
 /// A slot's generation is one more than how often it was emptied; one emptied 65,535 times is worn out.
 #[derive(Clone, Copy, Drop)]
 pub struct Slots {
-    placed: [bool; 256],
-    emptied: [u16; 256],
+    table: [Slot; 256],
     freed: [u8; 256],
     count: usize,
     used: usize,
     ghost span: { used ≤ 256 },
-    ghost tally: { trues placed + count ≤ used },
-    ghost idle: { Idle placed freed count },
+    ghost tally: { trues (placed_in table) + count ≤ used },
+    ghost idle: { Idle (placed_in table) freed count },
     ghost been_used: { Old freed count used },
     ghost apart: { Apart freed count },
-    ghost unused: { Unused placed used },
-    ghost untouched: { Untouched emptied used },
-    ghost young: { Young placed emptied },
-    ghost spare: { Spare emptied freed count },
+    ghost unused: { Unused (placed_in table) used },
+    ghost untouched: { Untouched (emptied_in table) used },
+    ghost young: { Young (placed_in table) (emptied_in table) },
+    ghost spare: { Spare (emptied_in table) freed count },
 }

@@ -1,6 +1,8 @@
 pub mod Kept
 pub mod Places
 pub mod Deals
+mod Ranking
+pub mod Standing
 pub mod Index
 pub mod Rings
 pub mod Whole

@@ -10,6 +10,10 @@ use Rattle.wiring.proofs.Kept.{kept_at, kept_within, kept_rises, kept_onto}
 pub length-segment : (o : List ℕ) (from to : ℕ) → from ≤ to → to ≤ length o → length (segment o from to) ≡ to - from
 length-segment o from to h k = let e = length-drop from o in length-take-le (to - from) (drop from o) (omega arith)
 
+-- what stands at a place of it
+pub seg_of : (o : List ℕ) (from to i : ℕ) → i < to - from → get_or (segment o from to) i 0 ≡ get_or o (from + i) 0
+seg_of o from to i h = get_or-take (to - from) (drop from o) i 0 h ∙ get_or-drop from o i 0
+
 -- the unmarked and the marked make it up
 pub length_both : (m : List Bool) (o : List ℕ) (from to : ℕ) → from ≤ to → to ≤ length o → length (marked m false (segment o from to)) + length (marked m true (segment o from to)) ≡ to - from
 length_both m o from to h k =
@@ -27,7 +31,7 @@ moved m o a b r = cond (get_or m (get_or o r 0) false) (a + length (marked m fal
 module _ (m : List Bool) (o : List ℕ) (a b : ℕ) (h : a ≤ b) (k : b ≤ length o) where
   -- what stands at the rank r
   pub seg_at : (r : ℕ) → a ≤ r → r < b → get_or (segment o a b) (r - a) 0 ≡ get_or o r 0
-  seg_at r p q = get_or-take (b - a) (drop a o) (r - a) 0 (omega arith) ∙ get_or-drop a o (r - a) 0 ∙ ap (λ i. get_or o i 0) (let z : a + (r - a) ≡ r = omega arith in z)
+  seg_at r p q = seg_of o a b (r - a) (omega arith) ∙ ap (λ i. get_or o i 0) (let z : a + (r - a) ≡ r = omega arith in z)
 
   -- and that it is in the segment
   pub seg_in : (r : ℕ) → a ≤ r → r < b → r - a < length (segment o a b)

@@ -22,11 +22,24 @@ kept_but s xs k h e out =
     ap (filter test) (sym (take-append-drop k xs)) ∙ filter-append test (take k xs) (drop k xs) ∙ ap (λ ys. filter test (take k xs) ++ filter test ys) (drop_more xs k 0 h)
     ∙ ap (λ ys. filter test (take k xs) ++ ys) (cond-false (not (eqb (get_or xs k 0) s)) _ _ (ap not (eq-eqb (get_or xs k 0) s e))) ∙ ap (λ ys. ys ++ filter test (drop (k + 1) xs)) low ∙ ap (λ ys. take k xs ++ ys) high
 
+-- the slots above the rank `from` moved one rank down, and the ranks of the others but `slot` stayed
+pub record Closed (count from slot : ℕ) (o o' rank rank' : List ℕ) : Type 0 where
+  pub low : (i : ℕ) → i < from → get_or o' i 0 ≡ get_or o i 0
+  pub mid : (i : ℕ) → from ≤ i → i < count - 1 → get_or o' i 0 ≡ get_or o (i + 1) 0
+  pub here : (i : ℕ) → from ≤ i → i < count - 1 → get_or rank' (get_or o (i + 1) 0) 0 ≡ i
+  pub other : (s : ℕ) → (s ≡ slot → ⊥) → ((i : ℕ) → from ≤ i → i < count - 1 → get_or o (i + 1) 0 ≡ s → ⊥) → get_or rank' s 0 ≡ get_or rank s 0
+
+-- the rank of `slot` may be forgotten
+pub forgotten : {count from slot : ℕ} {o o' rank rank' : List ℕ} → ((i : ℕ) → from ≤ i → i < count - 1 → get_or o (i + 1) 0 ≡ slot → ⊥) → Closed count from slot o o' rank rank' → Closed count from slot o o' rank (set rank' slot 0)
+forgotten {count} {from} {slot} {o} {o'} {rank} {rank'} apart was = record {
+  low = was.low;
+  mid = was.mid;
+  here = λ i p q. get_or-set_other rank' slot (get_or o (i + 1) 0) 0 0 (apart i p q) ∙ was.here i p q;
+  other = λ s ne none. get_or-set_other rank' slot s 0 0 ne ∙ was.other s ne none;
+}
+
 module _ (count : ℕ) (o rank : List ℕ) (live : List Bool) (l : Layout) (was : Sound count o rank live l) (slot : ℕ) (alive : get_or live slot false ≡ true)
-    (bare : (s t : ℕ) → WireTo l s t → (s ≡ slot → ⊥) × (t ≡ slot → ⊥)) (o' rank' : List ℕ)
-    (low : (i : ℕ) → i < get_or rank slot 0 → get_or o' i 0 ≡ get_or o i 0) (mid : (i : ℕ) → get_or rank slot 0 ≤ i → i < count - 1 → get_or o' i 0 ≡ get_or o (i + 1) 0)
-    (here : (i : ℕ) → get_or rank slot 0 ≤ i → i < count - 1 → get_or rank' (get_or o (i + 1) 0) 0 ≡ i)
-    (other : (s : ℕ) → ((i : ℕ) → get_or rank slot 0 ≤ i → i < count - 1 → get_or o (i + 1) 0 ≡ s → ⊥) → get_or rank' s 0 ≡ get_or rank s 0) where
+    (bare : (s t : ℕ) → WireTo l s t → (s ≡ slot → ⊥) × (t ≡ slot → ⊥)) (o' rank' : List ℕ) (closed : Closed count (get_or rank slot 0) slot o o' rank rank') where
   -- the slot has a rank
   in_count : get_or rank slot 0 < count
   in_count = (was.ranked slot alive).0
@@ -37,7 +50,7 @@ module _ (count : ℕ) (o rank : List ℕ) (live : List Bool) (l : Layout) (was 
 
   -- a lower rank stays
   rank_low : (s : ℕ) → get_or rank s 0 < get_or rank slot 0 → get_or rank' s 0 ≡ get_or rank s 0
-  rank_low s h = other s (λ i p q e. let r : get_or rank s 0 ≡ i + 1 = ap (λ t. get_or rank t 0) (sym e) ∙ (was.placed (i + 1) (omega arith)).1 in omega arith)
+  rank_low s h = closed.other s (λ e. let z = ap (λ t. get_or rank t 0) e in omega arith) (λ i p q e. let r : get_or rank s 0 ≡ i + 1 = ap (λ t. get_or rank t 0) (sym e) ∙ (was.placed (i + 1) (omega arith)).1 in omega arith)
 
   -- what stands at the rank before that of s
   before : (s : ℕ) → get_or live s false ≡ true → get_or rank slot 0 < get_or rank s 0 → get_or o (get_or rank s 0 - 1 + 1) 0 ≡ s
@@ -45,7 +58,7 @@ module _ (count : ℕ) (o rank : List ℕ) (live : List Bool) (l : Layout) (was 
 
   -- and a higher one falls by one
   rank_high : (s : ℕ) → get_or live s false ≡ true → get_or rank slot 0 < get_or rank s 0 → get_or rank' s 0 ≡ get_or rank s 0 - 1
-  rank_high s k h = ap (λ t. get_or rank' t 0) (sym (before s k h)) ∙ here (get_or rank s 0 - 1) (omega arith) (omega (arith, (was.ranked s k).0))
+  rank_high s k h = ap (λ t. get_or rank' t 0) (sym (before s k h)) ∙ closed.here (get_or rank s 0 - 1) (omega arith) (omega (arith, (was.ranked s k).0))
 
   -- what is live was so, and is another slot
   live_was : (s : ℕ) → get_or (set live slot false) s false ≡ true → (get_or live s false ≡ true) × (s ≡ slot → ⊥)
@@ -64,10 +77,10 @@ module _ (count : ℕ) (o rank : List ℕ) (live : List Bool) (l : Layout) (was 
   -- each rank is that of a live slot
   placed : Placed (count - 1) o' rank' (set live slot false)
   placed r h = elim (cases_lt r (get_or rank slot 0)) [
-    | inl k ↦ let w = was.placed r (omega arith) in let e = low r k in
+    | inl k ↦ let w = was.placed r (omega arith) in let e = closed.low r k in
         (ap (λ s. get_or (set live slot false) s false) e ∙ live_still (get_or o r 0) w.0 (λ i. let z = sym w.1 ∙ ap (λ s. get_or rank s 0) i in omega arith), ap (λ s. get_or rank' s 0) e ∙ rank_low (get_or o r 0) (omega (arith, w.1)) ∙ w.1)
-    | inr k ↦ let w = was.placed (r + 1) (omega arith) in let e = mid r k h in
-        (ap (λ s. get_or (set live slot false) s false) e ∙ live_still (get_or o (r + 1) 0) w.0 (λ i. let z = sym w.1 ∙ ap (λ s. get_or rank s 0) i in omega arith), ap (λ s. get_or rank' s 0) e ∙ here r k h)
+    | inr k ↦ let w = was.placed (r + 1) (omega arith) in let e = closed.mid r k h in
+        (ap (λ s. get_or (set live slot false) s false) e ∙ live_still (get_or o (r + 1) 0) w.0 (λ i. let z = sym w.1 ∙ ap (λ s. get_or rank s 0) i in omega arith), ap (λ s. get_or rank' s 0) e ∙ closed.here r k h)
   ]
 
   -- each live slot stands at its rank
@@ -77,9 +90,9 @@ module _ (count : ℕ) (o rank : List ℕ) (live : List Bool) (l : Layout) (was 
       let w = was.ranked s v.0 in
       let ne : get_or rank s 0 ≡ get_or rank slot 0 → ⊥ = λ e. v.1 (same s v.0 e) in
       elim (cases_lt (get_or rank s 0) (get_or rank slot 0)) [
-        | inl k ↦ let e = rank_low s k in (omega (arith, in_count), ap (λ n. get_or o' n 0) e ∙ low (get_or rank s 0) k ∙ w.1)
+        | inl k ↦ let e = rank_low s k in (omega (arith, in_count), ap (λ n. get_or o' n 0) e ∙ closed.low (get_or rank s 0) k ∙ w.1)
         | inr k ↦ let k' : get_or rank slot 0 < get_or rank s 0 = omega arith in let e = rank_high s v.0 k' in
-            (omega (arith, w.0), ap (λ n. get_or o' n 0) e ∙ mid (get_or rank s 0 - 1) (omega arith) (omega (arith, w.0)) ∙ before s v.0 k')
+            (omega (arith, w.0), ap (λ n. get_or o' n 0) e ∙ closed.mid (get_or rank s 0 - 1) (omega arith) (omega (arith, w.0)) ∙ before s v.0 k')
       ]
 
   -- the wires ascend still
@@ -133,8 +146,8 @@ module _ (count : ℕ) (o rank : List ℕ) (live : List Bool) (l : Layout) (was 
 
       places : (i : ℕ) → i < length (take (count - 1) o') → get_or (take (count - 1) o') i 0 ≡ get_or (take (get_or rank slot 0) (take count o) ++ drop (get_or rank slot 0 + 1) (take count o)) i 0
       places i h = let in' : i < count - 1 = omega (arith, l') in elim (cases_lt i (get_or rank slot 0)) [
-        | inl u ↦ get_or-take (count - 1) o' i 0 in' ∙ low i u ∙ sym (get_or_append_left (take (get_or rank slot 0) (take count o)) (drop (get_or rank slot 0 + 1) (take count o)) 0 i (omega (arith, lt)) ∙ get_or-take (get_or rank slot 0) (take count o) i 0 u ∙ at i (omega arith))
-        | inr u ↦ get_or-take (count - 1) o' i 0 in' ∙ mid i u in'
+        | inl u ↦ get_or-take (count - 1) o' i 0 in' ∙ closed.low i u ∙ sym (get_or_append_left (take (get_or rank slot 0) (take count o)) (drop (get_or rank slot 0 + 1) (take count o)) 0 i (omega (arith, lt)) ∙ get_or-take (get_or rank slot 0) (take count o) i 0 u ∙ at i (omega arith))
+        | inr u ↦ get_or-take (count - 1) o' i 0 in' ∙ closed.mid i u in'
             ∙ sym (get_or-append_right (take (get_or rank slot 0) (take count o)) (drop (get_or rank slot 0 + 1) (take count o)) (get_or rank slot 0) i 0 lt u ∙ get_or-drop (get_or rank slot 0 + 1) (take count o) (i - get_or rank slot 0) 0
             ∙ ap (λ n. get_or (take count o) n 0) (let z : get_or rank slot 0 + 1 + (i - get_or rank slot 0) ≡ i + 1 = omega arith in z) ∙ at (i + 1) (omega arith))
       ]

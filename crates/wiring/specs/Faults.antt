@@ -18,9 +18,13 @@ insert_fault l s n = check (is_placed l s) Occupied (check (nat_lt 3 n) TooManyP
 abbrev pub remove_fault : Layout → ℕ → Option Fault
 remove_fault l s = check (not (is_placed l s)) NoBlock None
 
+-- of what is done at the port p of t: it has to be there, before a later fault
+abbrev pub port_fault : Layout → ℕ → ℕ → Option Fault → Option Fault
+port_fault l t p later = check (not (is_placed l t)) NoBlock (check (not (nat_lt p (l.ports t))) NoPort later)
+
 -- of a cut at the port p of t
 abbrev pub disconnect_fault : Layout → ℕ → ℕ → Option Fault
-disconnect_fault l t p = check (not (is_placed l t)) NoBlock (check (not (nat_lt p (l.ports t))) NoPort (check (not (is_some (l.source t p))) Unwired None))
+disconnect_fault l t p = port_fault l t p (check (not (is_some (l.source t p))) Unwired None)
 
 -- of a wire from s into the port p of t, but for a ring
 abbrev pub connect_fault : Layout → ℕ → ℕ → ℕ → Option Fault

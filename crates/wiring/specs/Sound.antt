@@ -1,6 +1,14 @@
 -- What a wiring's tables keep: the ranks permute the placed slots, and the wires go between placed slots and up the ranks.
-use Rattle.std.specs.Prelude.{◌≡◌, ℕ, ◌<◌, ◌≤◌, Bool, true, false, List, length, Some, slice_index, slice_index_or}
+use Rattle.std.specs.Prelude.{◌≡◌, ℕ, ◌<◌, ◌≤◌, Bool, true, false, List, length, is_some, Some, Option, map, slice_index, slice_index_or, unwrap_or}
 use Rattle.wiring.specs.Layout.{Layout, WireTo, Direct}
+
+-- of each slot: whether it has a rank, which is that a block stands there
+abbrev pub live_of : List (Option ℕ) → List Bool
+live_of ranks = map is_some ranks
+
+-- the rank, 0 where there is none
+abbrev pub rank_in : List (Option ℕ) → List ℕ
+rank_in ranks = map (λ r. unwrap_or r 0) ranks
 
 -- the tables have an entry for each slot
 abbrev pub Sized : List ℕ → List Bool → Type 0

@@ -1,5 +1,5 @@
 //! One block: its ports, which of them are late, and what feeds each.
-ghost use Rattle.std.specs.Prelude.{◌≡◌, ℕ, ◌<◌, ◌≤◌, true, false, replicate, if◌then◌else◌, Some, None, Decides, nat_eq, slice_index_or};
+ghost use Rattle.std.specs.Prelude.{◌≡◌, ℕ, ◌<◌, ◌≤◌, true, false, length, replicate, if◌then◌else◌, Some, None, Decides, nat_eq, slice_index_or};
 ghost use Rattle.wiring.specs.Layout.{ports_at, late_at, source_at};
 ghost use Rattle.wiring.specs.Change.{off};
 ghost use Rattle.wiring.specs.Pass.{Fed};
@@ -47,24 +47,14 @@ impl Block {
         })
     }
 
-    // The block with one port fed from another slot, or from none.
-    pub(crate) fn with_source(self, port: usize, from: Option<u8>) -> Block
+    // Feeds one port from another slot, or from none.
+    pub(crate) fn feed(&mut self, port: usize, from: Option<u8>)
         requires { port < 3 }
-        ensures ports { result.ports ≡ self.ports }
-        ensures late { result.late ≡ self.late }
-        ensures source { (q : ℕ) → slice_index_or result.source q None ≡ (if nat_eq q port then from else slice_index_or self.source q None) }
+        ensures ports { self.new.ports ≡ self.old.ports }
+        ensures late { self.new.late ≡ self.old.late }
+        ensures source { (q : ℕ) → slice_index_or self.new.source q None ≡ (if nat_eq q port then from else slice_index_or self.old.source q None) }
     {
-        let Block {
-            ports,
-            late,
-            mut source,
-        } = self;
-        source[port] = from;
-        Block {
-            ports,
-            late,
-            source,
-        }
+        self.source[port] = from;
     }
 
     // Whether a direct port is fed from a slot that is marked.
@@ -72,53 +62,33 @@ impl Block {
         requires { self.now.ports ≤ 3 }
         ensures { Decides result (Fed self.now marks.now) }
     {
-        for p in 0..self.ports as usize {
-            if !self.late[p] {
-                if let Some(s) = self.source[p] {
-                    if marks[s as usize] {
-                        return true;
-                    }
-                }
-            }
-        }
-        false
+        let ports = self.ports as usize;
+        self.source[..ports].iter().zip(&self.late[..ports]).any(|(source, late)| !*late
+            && source.is_some_and(|s| marks[s as usize]))
     }
 
-    // The block with no port fed from `slot`.
-    pub(crate) fn without(self, slot: u8) -> Block
-        ensures ports { result.ports ≡ self.ports }
-        ensures late { result.late ≡ self.late }
-        ensures source { (p : ℕ) → slice_index_or result.source p None ≡ off slot (slice_index_or self.source p None) }
+    // No port fed from `slot`.
+    pub(crate) fn cut(&mut self, slot: u8)
+        ensures ports { self.new.ports ≡ self.old.ports }
+        ensures late { self.new.late ≡ self.old.late }
+        ensures source { (p : ℕ) → slice_index_or self.new.source p None ≡ off slot (slice_index_or self.old.source p None) }
     {
-        let Block {
-            ports,
-            late,
-            mut source,
-        } = self;
-        for p in 0..3 {
-            if let Some(s) = source[p] {
-                if s == slot {
-                    source[p] = None;
-                }
+        for source in &mut self.source {
+            if *source == Some(slot) {
+                *source = None;
             }
-        }
-        Block {
-            ports,
-            late,
-            source,
         }
     }
 }
 
-// The blocks with no wire from `slot`.
-pub(crate) fn cut_off(mut slots: [Block; 256], slot: u8) -> [Block; 256]
-    ensures ports { (t : ℕ) → ports_at result t ≡ ports_at slots t }
-    ensures late { (t p : ℕ) → late_at result t p ≡ late_at slots t p }
-    ensures source { (t p : ℕ) → source_at result t p ≡ off slot (source_at slots t p) }
+// No wire from `slot` into any block.
+pub(crate) fn cut_off(slots: &mut [Block; 256], slot: u8)
+    ensures size { length slots.new ≡ 256 }
+    ensures ports { (t : ℕ) → ports_at slots.new t ≡ ports_at slots.old t }
+    ensures late { (t p : ℕ) → late_at slots.new t p ≡ late_at slots.old t p }
+    ensures source { (t p : ℕ) → source_at slots.new t p ≡ off slot (source_at slots.old t p) }
 {
-    for t in 0..256 {
-        let one = slots[t];
-        slots[t] = one.without(slot);
+    for block in slots {
+        block.cut(slot);
     }
-    slots
 }

@@ -1,7 +1,7 @@
 //! The struct and its invariant.
 ghost use Rattle.std.specs.Prelude.{◌≤◌};
 ghost use Rattle.wiring.specs.Layout.{layout_of};
-ghost use Rattle.wiring.specs.Sound.{Sized, Placed, Ranked, Few, Fits, Heads, Tails, Ascends};
+ghost use Rattle.wiring.specs.Sound.{live_of, rank_in, Sized, Placed, Ranked, Few, Fits, Heads, Tails, Ascends};
 
 use crate::block::Block;
 
@@ -34,16 +34,15 @@ pub enum Fault {
 pub struct Wiring {
     count: usize,
     order: [u8; 256],
-    rank: [u8; 256],
-    live: [bool; 256],
+    rank: [Option<u8>; 256],
     slots: [Block; 256],
     ghost room: { count ≤ 256 },
-    ghost sized: { Sized order live },
-    ghost placed: { Placed count order rank live },
-    ghost ranked: { Ranked count order rank live },
+    ghost sized: { Sized order (live_of rank) },
+    ghost placed: { Placed count order (rank_in rank) (live_of rank) },
+    ghost ranked: { Ranked count order (rank_in rank) (live_of rank) },
     ghost few: { Few (layout_of count order slots) },
     ghost fits: { Fits (layout_of count order slots) },
-    ghost heads: { Heads live (layout_of count order slots) },
-    ghost tails: { Tails live (layout_of count order slots) },
-    ghost ascends: { Ascends rank (layout_of count order slots) },
+    ghost heads: { Heads (live_of rank) (layout_of count order slots) },
+    ghost tails: { Tails (live_of rank) (layout_of count order slots) },
+    ghost ascends: { Ascends (rank_in rank) (layout_of count order slots) },
 }

@@ -15,9 +15,9 @@ enum Edit {
     Disconnect(u8, u8),
 }
 
-// The wiring after an edit, and why it was refused if it was.
-fn edited(wiring: Wiring, edit: Edit) -> (Wiring, Option<Fault>) {
-    let done = match edit {
+// Makes an edit.
+fn edited(wiring: &mut Wiring, edit: Edit) -> Result<(), Fault> {
+    match edit {
         Edit::Place(slot) => wiring.insert(
             slot,
             Shape {
@@ -29,24 +29,14 @@ fn edited(wiring: Wiring, edit: Edit) -> (Wiring, Option<Fault>) {
         Edit::Remove(slot) => wiring.remove(slot),
         Edit::Connect(target, port, source) => wiring.connect(target, port, source),
         Edit::Disconnect(target, port) => wiring.disconnect(target, port),
-    };
-    match done {
-        Ok(wiring) => (wiring, None),
-        Err(refused) => {
-            let (wiring, fault) = refused;
-            (wiring, Some(fault))
-        }
     }
 }
 
-// The wiring after some edits, each of which has its answer.
-fn played(rt: &impl Abort, mut wiring: Wiring, script: &[(Edit, Option<Fault>)]) -> Wiring {
+// Makes some edits, each of which has its answer.
+fn played(rt: &impl Abort, wiring: &mut Wiring, script: &[(Edit, Option<Fault>)]) {
     for (edit, answer) in script {
-        let (next, fault) = edited(wiring, *edit);
-        wiring = next;
-        assert_eq!(rt; fault, *answer);
+        assert_eq!(rt; edited(wiring, *edit).err(), *answer);
     }
-    wiring
 }
 
 // Plays a beginning and the rest of some edits, and checks the order.
@@ -56,7 +46,9 @@ fn plays(
     rest: &[(Edit, Option<Fault>)],
     order: &[u8],
 ) {
-    let wiring = played(rt, played(rt, Wiring::empty(), start), rest);
+    let mut wiring = Wiring::empty();
+    played(rt, &mut wiring, start);
+    played(rt, &mut wiring, rest);
     assert!(rt; wiring.order() == order);
 }
 
@@ -191,7 +183,8 @@ fn longer_edits(rt: HostRuntime) {
 
 #[test]
 fn what_stands_there(rt: HostRuntime) {
-    let wiring = played(&rt, Wiring::empty(), &KILN);
+    let mut wiring = Wiring::empty();
+    played(&rt, &mut wiring, &KILN);
     assert!(rt; wiring.rank(50) == Some(3) && wiring.rank(60) == None);
     let block = wiring.block(40);
     assert!(rt; block.ports == 2 && block.late[0] && !block.late[1]);

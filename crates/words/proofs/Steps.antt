@@ -1,55 +1,73 @@
--- One part of a text, and those after it.
-use Rattle.std.proofs.Common.{◌≡◌, ℕ, suc, ◌+◌, ◌-◌, ◌<◌, ◌≤◌, Bool, true, false, cond, eqb, List, [], ◌∷◌, length, take, drop, sym, refl, ap, ◌∙◌, arith, length-drop}
-use Rattle.std.proofs.lemmas.List.{drop-drop, drop_all}
-use Rattle.words.specs.Parts.{before, parts, lines_of, words_of, until}
+-- Where a byte stands, and the first line or word before it.
+use Rattle.std.proofs.Common.{◌≡◌, ℕ, suc, ◌+◌, ◌<◌, ◌≤◌, Bool, true, false, not, cond, eqb, List, [], ◌∷◌, length, take, drop, refl, ap, ◌∙◌, arith, Bor, Some, None, Option, unwrap_or, MatchOption, subst, sym}
+use lib.Dec.{ltb}
+use Rattle.std.proofs.lemmas.Bool.{ltb-true, ltb-false}
+use Rattle.std.proofs.lemmas.List.{length-take-le, drop_all}
+use Rattle.std.specs.List.{position_or_len, before_first, after_first, onto_first}
+use Rattle.words.specs.Parts.{is, lines_of, words_of, Halves}
 
-more_by : (b : ℕ) (end : List (List ℕ)) (v : Bool) (x : ℕ) (xs : List ℕ) → (until b xs < length xs → parts b end xs ≡ take (until b xs) xs ∷ parts b end (drop (suc (until b xs)) xs)) → cond v 0 (suc (until b xs)) < suc (length xs) → cond v ([] ∷ parts b end xs) (before x (parts b end xs)) ≡ take (cond v 0 (suc (until b xs))) (x ∷ xs) ∷ parts b end (drop (suc (cond v 0 (suc (until b xs)))) (x ∷ xs))
-more_by b end true x xs ih h = refl
-more_by b end false x xs ih h = ap (before x) (ih (omega arith))
+-- a place n that was looked for below l, by what was found
+pub place : (n l : ℕ) (r : Option ℕ) → r ≡ cond (ltb n l) (Some n) None → MatchOption r (l ≤ n) (λ i. (i ≡ n) × (n < l))
+place n l r e = subst (λ o. MatchOption o (l ≤ n) (λ i. (i ≡ n) × (n < l))) (sym e) (by (ltb n l) refl)
+  where
+    by : (v : Bool) → ltb n l ≡ v → MatchOption (cond v (Some n) None) (l ≤ n) (λ i. (i ≡ n) × (n < l))
+    by true h = (refl, ltb-true n l h)
+    by false h = ltb-false n l h
 
--- a byte b follows the first part
-more : (b : ℕ) (end : List (List ℕ)) (xs : List ℕ) → until b xs < length xs → parts b end xs ≡ take (until b xs) xs ∷ parts b end (drop (suc (until b xs)) xs)
-unfolding parts
-more b end [] h = absurd (omega arith)
-more b end (x ∷ xs) h = more_by b end (eqb x b) x xs (more b end xs) h
+-- the place of the first byte 10, or the length
+abbrev end : List ℕ → ℕ
+end = position_or_len (is 10)
 
-last_by : (b : ℕ) (end : List (List ℕ)) (v : Bool) (x : ℕ) (xs : List ℕ) → (length xs ≤ until b xs → before x (parts b end xs) ≡ (x ∷ xs) ∷ []) → suc (length xs) ≤ cond v 0 (suc (until b xs)) → cond v ([] ∷ parts b end xs) (before x (parts b end xs)) ≡ (x ∷ xs) ∷ []
-last_by b end true x xs ih h = absurd (omega arith)
-last_by b end false x xs ih h = ih (omega arith)
+-- a byte 10 ends the first line
+pub first_line : (xs : List ℕ) → end xs < length xs → lines_of xs ≡ before_first (is 10) xs ∷ lines_of (after_first (is 10) xs)
+unfolding lines_of
+first_line [] h = absurd (omega arith)
+first_line (x ∷ xs) h = by (eqb x 10) (first_line xs) h
+  where
+    by : (v : Bool) → (end xs < length xs → lines_of xs ≡ take (end xs) xs ∷ lines_of (drop (end xs + 1) xs)) → cond (not v) (1 + end xs) 0 < length (x ∷ xs) → cond v ([] ∷ lines_of xs) (onto_first x (lines_of xs)) ≡ take (cond (not v) (1 + end xs) 0) (x ∷ xs) ∷ lines_of (drop (cond (not v) (1 + end xs) 0 + 1) (x ∷ xs))
+    by true ih h = refl
+    by false ih h =
+        let e : suc (end xs) ≡ 1 + end xs = omega arith in
+        let f : suc (end xs + 1) ≡ 1 + end xs + 1 = omega arith in
+        ap (onto_first x) (ih (omega arith)) ∙ (λ i. take (e i) (x ∷ xs) ∷ lines_of (drop (f i) (x ∷ xs)))
 
--- no byte b follows: the last part, where it has a byte
-last : (b : ℕ) (end : List (List ℕ)) → ((x : ℕ) → before x end ≡ (x ∷ []) ∷ []) → (x : ℕ) (xs : List ℕ) → suc (length xs) ≤ until b (x ∷ xs) → parts b end (x ∷ xs) ≡ (x ∷ xs) ∷ []
-unfolding parts
-last b end one x [] h = last_by b end (eqb x b) x [] (λ k. one x) h
-last b end one x (y ∷ ys) h = last_by b end (eqb x b) x (y ∷ ys) (λ k. ap (before x) (last b end one y ys k)) h
-
--- a line to the file's end
-last_line : (xs : List ℕ) → 0 < length xs → length xs ≤ until 10 xs → lines_of xs ≡ xs ∷ []
+-- without one, the line goes to the file's end
+pub last_line : (xs : List ℕ) → 0 < length xs → length xs ≤ end xs → lines_of xs ≡ xs ∷ []
+unfolding lines_of
 last_line [] s h = absurd (omega arith)
-last_line (x ∷ xs) s h = last 10 [] (λ x. refl) x xs h
+last_line (x ∷ xs) s h = by (eqb x 10) xs (last_line xs) h
+  where
+    by : (v : Bool) (xs : List ℕ) → (0 < length xs → length xs ≤ end xs → lines_of xs ≡ xs ∷ []) → length (x ∷ xs) ≤ cond (not v) (1 + end xs) 0 → cond v ([] ∷ lines_of xs) (onto_first x (lines_of xs)) ≡ (x ∷ xs) ∷ []
+    by true xs ih h = absurd (omega arith)
+    by false [] ih h = refl
+    by false (y ∷ ys) ih h = ap (onto_first x) (ih (omega arith) (omega arith))
 
--- a word to the line's end
-pub last_word : (xs : List ℕ) → length xs ≤ until 32 xs → words_of xs ≡ xs ∷ []
-unfolding parts
+-- no line is left of an empty file
+pub no_line : (xs : List ℕ) → length xs ≡ 0 → lines_of xs ≡ []
+unfolding lines_of
+no_line [] h = refl
+no_line (x ∷ xs) h = absurd (omega arith)
+
+-- the first line and the others: the halves at a byte 10, or else all and nothing
+pub next_line : (d : Bor (List ℕ) × Bor (List ℕ)) (text : List ℕ) (r : Option (Bor (List ℕ) × Bor (List ℕ))) (t : Bor (List ℕ) × Bor (List ℕ)) → t ≡ unwrap_or r d → d.0.now ≡ text → d.1.now ≡ [] → 0 < length text
+    → MatchOption r (length text ≤ end text) (λ p. Halves 10 text p.0.now p.1.now) → lines_of text ≡ t.0.now ∷ lines_of t.1.now
+next_line d text (Some p) t u e f h m = first_line text m.0 ∙ (λ i. sym m.1 i ∷ lines_of (sym m.2 i)) ∙ (λ i. (sym u i).0.now ∷ lines_of (sym u i).1.now)
+next_line d text None t u e f h m = last_line text h m ∙ (λ i. sym e i ∷ sym (no_line _ (ap length f)) i) ∙ (λ i. (sym u i).0.now ∷ lines_of (sym u i).1.now)
+
+-- and the others begin after the first and the byte that ends it
+pub next_rest : (d : Bor (List ℕ) × Bor (List ℕ)) (text : List ℕ) (r : Option (Bor (List ℕ) × Bor (List ℕ))) (t : Bor (List ℕ) × Bor (List ℕ)) → t ≡ unwrap_or r d → d.0.now ≡ text → d.1.now ≡ []
+    → MatchOption r (length text ≤ end text) (λ p. Halves 10 text p.0.now p.1.now) → t.1.now ≡ drop (length t.0.now + 1) text
+next_rest d text (Some p) t u e f m =
+    let l : length p.0.now ≡ end text = ap length m.1 ∙ length-take-le (end text) text (omega (arith, m.0)) in
+    (λ i. (u i).1.now) ∙ m.2 ∙ (λ i. drop (sym l i + 1) text) ∙ (λ i. drop (length (sym u i).0.now + 1) text)
+next_rest d text None t u e f m =
+    (λ i. (u i).1.now) ∙ f ∙ sym (drop_all (length d.0.now + 1) text (omega (arith, ap length e))) ∙ (λ i. drop (length (sym u i).0.now + 1) text)
+
+-- a line without a space is one word
+pub last_word : (xs : List ℕ) → length xs ≤ position_or_len (is 32) xs → words_of xs ≡ xs ∷ []
 last_word [] h = refl
-last_word (x ∷ xs) h = last 32 ([] ∷ []) (λ x. refl) x xs h
-
--- the part at a place, and the parts from the next place on
-pub part_here : (b : ℕ) (end : List (List ℕ)) (text rest : List ℕ) (at n : ℕ) → rest ≡ drop at text → n ≡ until b rest → n < length rest → parts b end (drop at text) ≡ take (n - 0) rest ∷ parts b end (drop (at + n + 1) text)
-part_here b end text rest at n e k h =
-    let first : until b rest ≡ n - 0 = omega arith in
-    let far : at + suc (until b rest) ≡ at + n + 1 = omega arith in
-    let second : drop (suc (until b rest)) rest ≡ drop (at + n + 1) text = ap (drop (suc (until b rest))) e ∙ drop-drop (suc (until b rest)) at text ∙ ap (λ m. drop m text) far in
-    ap (parts b end) (sym e) ∙ more b end rest (omega arith) ∙ (λ i. take (first i) rest ∷ parts b end (second i))
-
--- no line follows a file's end
-pub none_left : (file : List ℕ) → lines_of (drop (length file) file) ≡ []
-unfolding parts
-none_left file = ap lines_of (drop_all (length file) file (omega arith))
-
-pub last_line_here : (file rest : List ℕ) (at : ℕ) → rest ≡ drop at file → length rest ≡ until 10 rest → at < length file → lines_of (drop at file) ≡ rest ∷ lines_of (drop (length file) file)
-last_line_here file rest at e h s =
-    ap lines_of (sym e) ∙ last_line rest (omega (arith, ap length e ∙ length-drop at file)) (omega arith) ∙ ap (λ ls. rest ∷ ls) (sym (none_left file))
-
-pub last_word_here : (line rest : List ℕ) (at : ℕ) → rest ≡ drop at line → length rest ≡ until 32 rest → words_of (drop at line) ≡ rest ∷ []
-last_word_here line rest at e h = ap words_of (sym e) ∙ last_word rest (omega arith)
+last_word (x ∷ xs) h = by (eqb x 32) (last_word xs) h
+  where
+    by : (v : Bool) → (length xs ≤ position_or_len (is 32) xs → words_of xs ≡ xs ∷ []) → length (x ∷ xs) ≤ cond (not v) (1 + position_or_len (is 32) xs) 0 → cond v ([] ∷ words_of xs) (onto_first x (words_of xs)) ≡ (x ∷ xs) ∷ []
+    by true ih h = absurd (omega arith)
+    by false ih h = ap (onto_first x) (ih (omega arith))

@@ -1,3 +1,4 @@
 pub mod Parts
+pub mod Left
 pub mod Names
 pub mod Words

@@ -1,13 +1,13 @@
 -- What a word is: a name or a number.
-use Rattle.std.specs.Prelude.{◌≡◌, ℕ, ◌≤◌, Bool, true, ◌&&◌, ◌||◌, List, [], ◌∷◌, length, ℤ, slice_index, unsigned_abs}
+use Rattle.std.specs.Prelude.{◌≡◌, ℕ, ◌≤◌, Bool, true, ◌||◌, List, length, ℤ, slice_index, unsigned_abs}
 use Rattle.std.specs.Char.{is_ascii_digit, is_ascii_lowercase}
 use Rattle.std.specs.Fmt.{signed_decimal}
+use Rattle.std.specs.List.{list_all}
 use Rattle.std.specs.Str.{all_ascii_digits}
 
 -- each byte is a letter a–z or a digit
 abbrev pub all_name : List ℕ → Bool
-all_name [] = true
-all_name (b ∷ bs) = (is_ascii_lowercase b || is_ascii_digit b) && all_name bs
+all_name = list_all (λ b. is_ascii_lowercase b || is_ascii_digit b)
 
 -- a name: 1 to 12 letters and digits, a letter first
 abbrev pub IsName : List ℕ → Type 0

@@ -1,9 +1,11 @@
 //! A file is read by lines, and a line by words; what is given are parts of the file.
 #![tactic(auto)]
 
-mod bytes;
-mod reader;
+mod lines;
+mod split;
 mod word;
+mod words;
 
-pub use reader::Reader;
+pub use lines::Lines;
 pub use word::Word;
+pub use words::Words;

@@ -9,9 +9,9 @@ ghost use Rattle.diagram.specs.Made.{Made, Drawn, answer};
 ghost use Rattle.diagram.specs.View.{chart, lent};
 
 use crate::diagram::Diagram;
-use crate::rows::{write_record, write_signal};
+use crate::rows::write;
 use family::{Family, Params};
-use passes::are_long;
+use passes::Row;
 use refusal::Refusal;
 use slots::Slots;
 use std::marker::PhantomData;
@@ -42,15 +42,14 @@ impl<F: Family> Diagram<F> {
     ) -> Result<u32, Refusal>
         ensures { Made (meaning F.Family) (placement kind params) (lent self.old records.old signals.old) (answer (λ h. h) result) (lent self.new records.new signals.new) }
     {
-        if !are_long::<F>(records, signals) {
-            return Err(Refusal::RowTooShort);
-        }
+        Row::of(records)?;
+        Row::of(signals)?;
         let slot = self.check_place(kind, params)?;
         let handle = self.slots.handle(slot);
         let block = F::fresh(kind, params);
         self.put_in(slot, block);
-        write_record::<F>(records, slot, block);
-        write_signal::<F>(signals, slot, F::rest());
+        write(records, slot, block);
+        write(signals, slot, F::rest());
         Ok(handle)
     }
 
@@ -69,10 +68,8 @@ impl<F: Family> Diagram<F> {
         ensures chart { chart self.new ≡ placing (meaning F.Family) block slot (chart self.old) }
         ensures order { (layout self.new.wiring).order ≡ (layout self.old.wiring).order ++ (slot ∷ []) }
     {
-        if let Ok(wiring) = self.wiring.insert(slot, shape_of::<F>(block)) {
-            self.wiring = wiring;
-            self.slots.take();
-        }
+        self.wiring.insert(slot, shape_of::<F>(block)).unwrap();
+        self.slots.take();
     }
 
     // Takes the block at a slot out.
@@ -81,10 +78,8 @@ impl<F: Family> Diagram<F> {
         ensures chart { chart self.new ≡ removing slot (chart self.old) }
         ensures order { (layout self.new.wiring).order ≡ filter (λ s. not (s == slot)) (layout self.old.wiring).order }
     {
-        if let Ok(wiring) = self.wiring.remove(slot) {
-            self.wiring = wiring;
-            self.slots.release(slot);
-        }
+        self.wiring.remove(slot).unwrap();
+        self.slots.release(slot);
     }
 }
 

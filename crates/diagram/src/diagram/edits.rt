@@ -6,8 +6,9 @@ ghost use Rattle.diagram.specs.Made.{Made, answer};
 ghost use Rattle.diagram.specs.View.{lent};
 
 use crate::diagram::Diagram;
-use crate::rows::{read_record, write_record};
+use crate::rows::write;
 use family::{Family, Params};
+use passes::Row;
 use refusal::Refusal;
 
 impl<F: Family> Diagram<F> {
@@ -20,15 +21,13 @@ impl<F: Family> Diagram<F> {
     ) -> Result<(), Refusal>
         ensures { (signals : List F.Signal) → Made (meaning F.Family) (edit handle (tuning params)) (lent self.now records.old signals) (answer (λ _. 0) result) (lent self.now records.new signals) }
     {
-        if records.len() < 256 {
-            return Err(Refusal::RowTooShort);
-        }
+        let row = Row::of(records)?;
         let slot = self.check_block(handle)?;
-        let block = read_record::<F>(records, slot);
+        let block = row.at(slot);
         if let Some(parameter) = F::unfit(block, params) {
             return Err(Refusal::BadParameter(parameter));
         }
-        write_record::<F>(records, slot, F::tuned(block, params));
+        write(records, slot, F::tuned(block, params));
         Ok(())
     }
 
@@ -36,15 +35,13 @@ impl<F: Family> Diagram<F> {
     pub fn feed(&self, records: &mut [F::Record], handle: u32, n: i32) -> Result<(), Refusal>
         ensures { (signals : List F.Signal) → Made (meaning F.Family) (edit handle (feeding n)) (lent self.now records.old signals) (answer (λ _. 0) result) (lent self.now records.new signals) }
     {
-        if records.len() < 256 {
-            return Err(Refusal::RowTooShort);
-        }
+        let row = Row::of(records)?;
         let slot = self.check_block(handle)?;
-        let block = read_record::<F>(records, slot);
+        let block = row.at(slot);
         if !F::takes(block) {
             return Err(Refusal::TakesNoFeed);
         }
-        write_record::<F>(records, slot, F::fed(block, n));
+        write(records, slot, F::fed(block, n));
         Ok(())
     }
 }

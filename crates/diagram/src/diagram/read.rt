@@ -11,6 +11,7 @@ ghost use Rattle.diagram.specs.View.{chart};
 
 use crate::diagram::Diagram;
 use family::Family;
+use passes::Row;
 use refusal::Refusal;
 
 impl<F: Family> Diagram<F> {
@@ -32,25 +33,16 @@ impl<F: Family> Diagram<F> {
     pub fn rank(&self, handle: u32) -> Result<u8, Refusal>
         ensures { result ≡ unless (first (when (not (names (chart self.now) handle)) UnknownHandle ∷ [])) (rank_of (layout self.now.wiring) (slot handle)) }
     {
-        let Some(at) = self.slots.slot(handle) else {
-            return Err(Refusal::UnknownHandle);
-        };
-        match self.wiring.rank(at) {
-            Some(rank) => Ok(rank),
-            None => Err(Refusal::UnknownHandle),
-        }
+        let at = self.slots.slot(handle).ok_or(Refusal::UnknownHandle)?;
+        self.wiring.rank(at).ok_or(Refusal::UnknownHandle)
     }
 
     /// The number of a block's signal.
     pub fn show(&self, signals: &[F::Signal], handle: u32) -> Result<i32, Refusal>
         ensures { result ≡ unless (first (when (nat_lt (length signals.now) 256) RowTooShort ∷ when (not (names (chart self.now) handle)) UnknownHandle ∷ [])) ((meaning F.Family).number (row (meaning F.Family) signals.now (slot handle))) }
     {
-        if signals.len() < 256 {
-            return Err(Refusal::RowTooShort);
-        }
-        match self.slots.slot(handle) {
-            Some(at) => Ok(F::number(signals[at as usize])),
-            None => Err(Refusal::UnknownHandle),
-        }
+        let row = Row::of(signals)?;
+        let at = self.slots.slot(handle).ok_or(Refusal::UnknownHandle)?;
+        Ok(F::number(row.at(at)))
     }
 }

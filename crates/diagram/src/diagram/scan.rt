@@ -1,5 +1,5 @@
 //! The two halves of a scan.
-ghost use Rattle.std.specs.Prelude.{◌≡◌, ℕ, true, Ok, Err};
+ghost use Rattle.std.specs.Prelude.{◌≡◌, ℕ, true, IfErr};
 ghost use Rattle.std.specs.List.{slice_get};
 ghost use Rattle.family.specs.Meaning.{meaning};
 ghost use Rattle.passes.specs.Rows.{row};
@@ -12,7 +12,7 @@ ghost use Rattle.diagram.specs.View.{chart, lent};
 use crate::diagram::Diagram;
 use crate::token::ScanToken;
 use family::Family;
-use passes::are_long;
+use passes::{Row, are_long};
 use refusal::Refusal;
 
 impl<F: Family> Diagram<F> {
@@ -24,13 +24,12 @@ impl<F: Family> Diagram<F> {
     ) -> Result<ScanToken, Refusal>
         ensures { Made (meaning F.Family) solving (lent self.old records.now signals.old) (answer (λ t. t.number) result) (lent self.new records.now signals.new) }
     {
-        if !are_long::<F>(records, signals) {
-            return Err(Refusal::RowTooShort);
-        }
+        Row::of(records)?;
+        Row::of(signals)?;
         if self.scan.is_some() {
             return Err(Refusal::DiagramOpen);
         }
-        passes::solve::<F>(&self.wiring, records, signals);
+        passes::solve::<F>(&self.wiring, records, signals).unwrap();
         let number = next_number(self.scans);
         self.scan = Some(number);
         self.scans = number;
@@ -46,7 +45,7 @@ impl<F: Family> Diagram<F> {
         token: ScanToken,
     ) -> Result<(), (ScanToken, Refusal)>
         ensures made { Made (meaning F.Family) (settling token.number) (lent self.old records.old signals.now) (settled result) (lent self.new records.new signals.now) }
-        ensures back { elim result [ Ok _ ↦ true ≡ true | Err e ↦ e.0 ≡ token ] }
+        ensures back { IfErr result (λ e. e.0 ≡ token) }
     {
         if !are_long::<F>(records, signals) {
             return Err((token, Refusal::RowTooShort));
@@ -64,10 +63,7 @@ impl<F: Family> Diagram<F> {
     fn is_open_for(&self, number: u32) -> bool
         ensures { result ≡ is_scan self.now.scan number }
     {
-        match self.scan {
-            Some(open) => open == number,
-            None => false,
-        }
+        self.scan == Some(number)
     }
 
     // The next records of all placed blocks.
@@ -75,7 +71,7 @@ impl<F: Family> Diagram<F> {
         requires { long records.old signals.now ≡ true }
         ensures { (s : ℕ) → slice_get records.new s ≡ advanced (meaning F.Family) (chart self.now).source (row (meaning F.Family) signals.now) (chart self.now).placed (slice_get records.old) s }
     {
-        passes::settle::<F>(&self.wiring, records, signals);
+        passes::settle::<F>(&self.wiring, records, signals).unwrap();
     }
 }
 

@@ -1,5 +1,5 @@
 //! Wires that are made and cut.
-ghost use Rattle.std.specs.Prelude.{◌≡◌, ◌<◌, true, false, is_some, Some, None};
+ghost use Rattle.std.specs.Prelude.{◌≡◌, ◌<◌, true, is_some, Some, None, OnOk, OnErr};
 ghost use Rattle.family.specs.Meaning.{meaning};
 ghost use Rattle.wiring.specs.Order.{NewOrder};
 ghost use Rattle.wiring.specs.Ring.{HasRing};
@@ -13,6 +13,7 @@ ghost use Rattle.diagram.specs.World.{DirectSlots};
 use crate::diagram::Diagram;
 use family::Family;
 use refusal::Refusal;
+use wiring::Fault;
 
 impl<F: Family> Diagram<F> {
     /// Wires a port of the target from the source's output.
@@ -20,11 +21,8 @@ impl<F: Family> Diagram<F> {
         ensures { Drawn (meaning F.Family) (wiring_up target port source) self.old (answer (λ _. 0) result) self.new }
     {
         self.check_wire(target, port, source)?;
-        if self.join(target, port, source) {
-            Ok(())
-        } else {
-            Err(Refusal::MakesRing)
-        }
+        self.join(target, port, source)
+            .map_err(|_| Refusal::MakesRing)
     }
 
     /// Cuts the wire into a port.
@@ -36,21 +34,14 @@ impl<F: Family> Diagram<F> {
         Ok(())
     }
 
-    // Makes a wire that passes all checks but the ring's; false, and nothing done, where it would close one.
-    fn join(&mut self, target: u32, port: u8, source: u32) -> bool
+    // Makes a wire that passes all checks but the ring's.
+    fn join(&mut self, target: u32, port: u8, source: u32) -> Result<(), Fault>
         requires { WireFits (chart self.old) (slot target) port (slot source) }
-        ensures { elim result [ true ↦ (chart self.new ≡ sourcing (slot target) port (Some (slot source)) (chart self.old)) × NewOrder (layout self.old.wiring) (slot target) port (slot source) (layout self.new.wiring).order | false ↦ (self.new ≡ self.old) × HasRing (DirectSlots (sourcing (slot target) port (Some (slot source)) (chart self.old))) ] }
+        ensures ok { OnOk result ((chart self.new ≡ sourcing (slot target) port (Some (slot source)) (chart self.old)) × NewOrder (layout self.old.wiring) (slot target) port (slot source) (layout self.new.wiring).order) }
+        ensures err { OnErr result ((self.new ≡ self.old) × HasRing (DirectSlots (sourcing (slot target) port (Some (slot source)) (chart self.old)))) }
     {
-        match self
-            .wiring
+        self.wiring
             .connect((target % 256) as u8, port, (source % 256) as u8)
-        {
-            Ok(wiring) => {
-                self.wiring = wiring;
-                true
-            }
-            Err(_) => false,
-        }
     }
 
     // No wire into a port of a slot.
@@ -61,8 +52,6 @@ impl<F: Family> Diagram<F> {
         ensures chart { chart self.new ≡ sourcing at port None (chart self.old) }
         ensures order { (layout self.new.wiring).order ≡ (layout self.old.wiring).order }
     {
-        if let Ok(wiring) = self.wiring.disconnect(at, port) {
-            self.wiring = wiring;
-        }
+        self.wiring.disconnect(at, port).unwrap();
     }
 }

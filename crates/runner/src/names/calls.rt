@@ -1,15 +1,15 @@
 //! Finding names and keeping them.
-ghost use Rattle.std.specs.Prelude.{◌≡◌, ℕ, ◌%◌, ◌<◌, ◌≤◌, true, [], length, Some, IfSome};
+ghost use Rattle.std.specs.Prelude.{◌≡◌, ℕ, ◌%◌, ◌≤◌, true, [], length, Some, None, MatchOption};
 ghost use Rattle.std.specs.Str.{bytes_eq};
 ghost use Rattle.passes.specs.Rows.{put};
 ghost use Rattle.diagram.specs.Chart.{names};
 ghost use Rattle.diagram.specs.View.{chart};
 ghost use Rattle.runner.specs.Book.{in_use, lowest, found};
-ghost use Rattle.runner.specs.View.{name_in, book};
+ghost use Rattle.runner.specs.View.{name_in, book, Lowest};
 
 use crate::names::{Entry, Names};
 use diagram::Diagram;
-use family::{Family, is_word};
+use family::Family;
 
 impl Entry {
     // An entry of a name.
@@ -19,7 +19,7 @@ impl Entry {
         ensures handle { result.handle ≡ handle }
     {
         let mut bytes = [0; 12];
-        bytes[0..name.len()].copy_from_slice(name);
+        bytes[..name.len()].copy_from_slice(name);
         Entry {
             bytes,
             size: name.len(),
@@ -31,7 +31,7 @@ impl Entry {
     fn is_of(&self, name: &[u8]) -> bool
         ensures { result ≡ bytes_eq (name_in self.now) name.now }
     {
-        is_word(&self.bytes[0..self.size], name)
+        &self.bytes[..self.size] == name
     }
 }
 
@@ -60,40 +60,14 @@ impl Names {
         ensures found { result ≡ found (chart diagram.now) (book self.now) name.now }
         ensures placed { (h : ℕ) → result ≡ Some h → names (chart diagram.now) h ≡ true }
     {
-        match self.lowest(diagram, name) {
-            Some(slot) => Some(self.handle_at(slot)),
-            None => None,
-        }
+        self.lowest(diagram, name).map(|entry| entry.handle)
     }
 
-    // The lowest slot with this name in use.
-    fn lowest<F: Family>(&self, diagram: &Diagram<F>, name: &[u8]) -> Option<usize>
-        ensures slot { result ≡ lowest (in_use (chart diagram.now) (book self.now) name.now) 256 }
-        ensures used { IfSome result (λ s. (s < 256) × (in_use (chart diagram.now) (book self.now) name.now s ≡ true)) }
+    // The entry of the lowest slot with this name in use.
+    fn lowest<F: Family>(&self, diagram: &Diagram<F>, name: &[u8]) -> Option<&Entry>
+        ensures { MatchOption result (lowest (in_use (chart diagram.now) (book self.now) name.now) 256 ≡ None) (λ e. Lowest (chart diagram.now) self.now name.now e.now) }
     {
-        for slot in 0..256 {
-            if self.in_use(diagram, name, slot) {
-                return Some(slot);
-            }
-        }
-        None
-    }
-
-    // Whether the name at a slot is this one, and in use.
-    fn in_use<F: Family>(&self, diagram: &Diagram<F>, name: &[u8], slot: usize) -> bool
-        requires { slot < 256 }
-        ensures { result ≡ in_use (chart diagram.now) (book self.now) name.now slot }
-    {
-        let entry = self.entries[slot];
-        entry.is_of(name) && diagram.is_placed(entry.handle)
-    }
-
-    // The handle at a slot.
-    fn handle_at(&self, slot: usize) -> u32
-        requires { slot < 256 }
-        ensures { result ≡ (book self.now).handle slot }
-    {
-        self.entries[slot].handle
+        self.entries.iter().find(|entry| entry.is_of(name) && diagram.is_placed(entry.handle))
     }
 
     // Keeps the name of a block at its handle's slot.

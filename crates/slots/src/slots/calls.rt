@@ -1,8 +1,10 @@
 //! Filling and emptying slots, and reading handles.
-ghost use Rattle.std.specs.Prelude.{◌≡◌, ◌+◌, ◌-◌, ◌*◌, ◌%◌, ◌<◌, ◌≤◌, true, false, replicate, if◌then◌else◌, Some, None, slice_index_or};
+ghost use Rattle.std.specs.Prelude.{◌≡◌, ◌+◌, ◌-◌, ◌*◌, ◌%◌, ◌<◌, ◌≤◌, true, false, if◌then◌else◌, Some, None, IfSome, IfNone, MatchBool, slice_index_or};
 ghost use Rattle.slots.specs.Ledger.{Same, untouched, handle_at, names, free_of, filled, emptied as vacated};
+ghost use Rattle.slots.specs.Tables.{placed_in};
 ghost use Rattle.slots.specs.View.{ledger, Loose, Cleared, Pushed};
 
+use crate::slot::Slot;
 use crate::slots::Slots;
 
 impl Slots {
@@ -10,17 +12,17 @@ impl Slots {
     pub fn fresh() -> Slots
         ensures { Same (ledger result) untouched }
     {
-        Slots::blank([false; 256])
+        Slots::blank(Slot::unused())
     }
 
-    // 256 slots with no block.
-    fn blank(placed: [bool; 256]) -> Slots
-        requires { placed ≡ replicate 256 false }
+    // 256 slots, each as this one, where no block stands.
+    fn blank(slot: Slot) -> Slots
+        requires placed { slot.placed ≡ false }
+        requires emptied { slot.emptied ≡ 0 }
         ensures { Same (ledger result) untouched }
     {
         Slots {
-            placed,
-            emptied: [0; 256],
+            table: [slot; 256],
             freed: [0; 256],
             count: 0,
             used: 0,
@@ -31,7 +33,7 @@ impl Slots {
     pub fn handle(&self, slot: u8) -> u32
         ensures { result ≡ handle_at (ledger self.now) slot }
     {
-        (self.emptied[slot as usize] as u32 + 1) * 256 + slot as u32
+        self.table[slot as usize].generation() * 256 + u32::from(slot)
     }
 
     /// The slot of the placed block that a handle names.
@@ -39,12 +41,8 @@ impl Slots {
         ensures { result ≡ (if names (ledger self.now) handle then Some (handle % 256) else None) }
     {
         let slot = (handle % 256) as u8;
-        let generation = self.emptied[slot as usize] as u32 + 1;
-        if self.placed[slot as usize] & (generation == handle / 256) {
-            Some(slot)
-        } else {
-            None
-        }
+        let at = self.table[slot as usize];
+        (at.placed && at.generation() == handle / 256).then_some(slot)
     }
 
     /// The slot that the next block gets.
@@ -65,7 +63,8 @@ impl Slots {
     /// Takes the free slot for a block, if there is one.
     pub fn take(&mut self) -> Option<u8>
         ensures slot { result ≡ free_of (ledger self.old).freed (ledger self.old).used }
-        ensures change { elim result [ Some s ↦ Same (ledger self.new) (filled (ledger self.old) s) | None ↦ self.new ≡ self.old ] }
+        ensures some { IfSome result (λ s. Same (ledger self.new) (filled (ledger self.old) s)) }
+        ensures none { IfNone result (self.new ≡ self.old) }
     {
         if self.count > 0 {
             Some(self.reuse())
@@ -92,7 +91,7 @@ impl Slots {
     {
         self.count -= 1;
         let slot = self.freed[self.count];
-        self.placed[slot as usize] = true;
+        self.table[slot as usize].placed = true;
         slot
     }
 
@@ -104,7 +103,7 @@ impl Slots {
         ensures change { Same (ledger self.new) (filled (ledger self.old) result) }
     {
         let slot = self.used;
-        self.placed[slot] = true;
+        self.table[slot].placed = true;
         self.used += 1;
         slot as u8
     }
@@ -114,9 +113,9 @@ impl Slots {
     /// Empties a slot; false where no block stands there.
     pub fn release(&mut self, slot: u8) -> bool
         ensures was { result ≡ (ledger self.old).placed slot }
-        ensures change { elim result [ true ↦ Same (ledger self.new) (vacated (ledger self.old) slot) | false ↦ self.new ≡ self.old ] }
+        ensures change { MatchBool result (Same (ledger self.new) (vacated (ledger self.old) slot)) (self.new ≡ self.old) }
     {
-        if !self.placed[slot as usize] {
+        if !self.table[slot as usize].placed {
             return false;
         }
         self.vacate(slot);
@@ -125,22 +124,25 @@ impl Slots {
 
     // Empties a slot where a block stands, to be used again unless it is worn out.
     fn vacate(&mut self, slot: u8)
-        requires { slice_index_or self.old.placed slot false ≡ true }
+        requires { slice_index_or (placed_in self.old.table) slot false ≡ true }
         ensures { Same (ledger self.new) (vacated (ledger self.old) slot) }
     {
         self.clear(slot);
-        if self.emptied[slot as usize] < 65_535 {
+        if self.table[slot as usize].emptied < 65_535 {
             self.push(slot);
         }
     }
 
     // Takes the block out of a slot, and counts that.
     fn clear(&mut self, slot: u8)
-        requires { slice_index_or self.old.placed slot false ≡ true }
+        requires { slice_index_or (placed_in self.old.table) slot false ≡ true }
         ensures { Cleared self.old slot self.new }
     {
-        self.placed[slot as usize] = false;
-        self.emptied[slot as usize] += 1;
+        let Slot { emptied, .. } = self.table[slot as usize];
+        self.table[slot as usize] = Slot {
+            placed: false,
+            emptied: emptied + 1,
+        };
     }
 
     // Puts an empty slot on the stack of those to use again.

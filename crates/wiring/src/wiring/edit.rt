@@ -1,5 +1,5 @@
 //! Blocks that come and go, and wires that are cut.
-ghost use Rattle.std.specs.Prelude.{◌≡◌, ℕ, ◌<◌, ◌≤◌, true, false, not, replicate, if◌then◌else◌, Some, None, Ok, Err, filter, ◌==◌, ◌≢◌, nat_eq};
+ghost use Rattle.std.specs.Prelude.{◌≡◌, ℕ, ◌<◌, ◌≤◌, true, false, not, replicate, if◌then◌else◌, Some, None, OnOk, IfErr, filter, ◌==◌, ◌≢◌, nat_eq};
 ghost use Rattle.wiring.specs.Change.{Same, nothing, inserted, removed, rewired, off};
 ghost use Rattle.wiring.specs.Faults.{insert_fault, remove_fault, disconnect_fault};
 ghost use Rattle.wiring.specs.Layout.{is_placed, rank_of, Direct, WireTo};
@@ -19,44 +19,44 @@ impl Wiring {
     }
 
     /// Places a block with no wires at a slot, at the highest rank.
-    pub fn insert(self, slot: u8, shape: Shape) -> Result<Wiring, (Wiring, Fault)>
-        ensures { elim result [ Ok w ↦ (insert_fault (layout self) slot shape.ports ≡ None) × Same (layout w) (inserted (layout self) slot shape.ports shape.late) | Err e ↦ (e.0 ≡ self) × (insert_fault (layout self) slot shape.ports ≡ Some e.1) ] }
+    pub fn insert(&mut self, slot: u8, shape: Shape) -> Result<(), Fault>
+        ensures ok { OnOk result ((insert_fault (layout self.old) slot shape.ports ≡ None) × Same (layout self.new) (inserted (layout self.old) slot shape.ports shape.late)) }
+        ensures err { IfErr result (λ e. (self.new ≡ self.old) × (insert_fault (layout self.old) slot shape.ports ≡ Some e)) }
     {
         if self.stands(slot) {
-            return Err((self, Fault::Occupied));
+            return Err(Fault::Occupied);
         }
         if shape.ports > 3 {
-            return Err((self, Fault::TooManyPorts));
+            return Err(Fault::TooManyPorts);
         }
-        Ok(self.appended(slot, Block::open(shape)))
+        self.append(slot, Block::open(shape));
+        Ok(())
     }
 
     /// Takes the block at a slot out, with the wires to it and from it.
     /// Those of a higher rank move down by one.
-    pub fn remove(self, slot: u8) -> Result<Wiring, (Wiring, Fault)>
-        ensures { elim result [ Ok w ↦ (remove_fault (layout self) slot ≡ None) × Same (layout w) (removed (layout self) slot) | Err e ↦ (e.0 ≡ self) × (remove_fault (layout self) slot ≡ Some e.1) ] }
+    pub fn remove(&mut self, slot: u8) -> Result<(), Fault>
+        ensures ok { OnOk result ((remove_fault (layout self.old) slot ≡ None) × Same (layout self.new) (removed (layout self.old) slot)) }
+        ensures err { IfErr result (λ e. (self.new ≡ self.old) × (remove_fault (layout self.old) slot ≡ Some e)) }
     {
         if !self.stands(slot) {
-            return Err((self, Fault::NoBlock));
+            return Err(Fault::NoBlock);
         }
-        Ok(self.cleared(slot).taken_out(slot))
+        self.clear(slot);
+        self.take_out(slot);
+        Ok(())
     }
 
     /// Cuts the wire into a port. The order stays.
-    pub fn disconnect(self, target: u8, port: u8) -> Result<Wiring, (Wiring, Fault)>
-        ensures { elim result [ Ok w ↦ (disconnect_fault (layout self) target port ≡ None) × Same (layout w) (rewired (layout self) target port None) | Err e ↦ (e.0 ≡ self) × (disconnect_fault (layout self) target port ≡ Some e.1) ] }
+    pub fn disconnect(&mut self, target: u8, port: u8) -> Result<(), Fault>
+        ensures ok { OnOk result ((disconnect_fault (layout self.old) target port ≡ None) × Same (layout self.new) (rewired (layout self.old) target port None)) }
+        ensures err { IfErr result (λ e. (self.new ≡ self.old) × (disconnect_fault (layout self.old) target port ≡ Some e)) }
     {
-        if !self.stands(target) {
-            return Err((self, Fault::NoBlock));
+        if self.source_of(target, port)?.is_none() {
+            return Err(Fault::Unwired);
         }
-        let block = self.block(target);
-        if port >= block.ports {
-            return Err((self, Fault::NoPort));
-        }
-        if block.source[port as usize].is_none() {
-            return Err((self, Fault::Unwired));
-        }
-        Ok(self.fed_from(target, port, None))
+        self.feed(target, port, None);
+        Ok(())
     }
 
     // A wiring with no block, where `none` is what stands for one.
@@ -66,123 +66,62 @@ impl Wiring {
         requires source { none.source ≡ replicate 3 None }
         ensures { Same (layout result) nothing }
     {
-        let order = [0; 256];
-        let rank = [0; 256];
-        let live = [false; 256];
-        let slots = [none; 256];
         Wiring {
             count: 0,
-            order,
-            rank,
-            live,
-            slots,
+            order: [0; 256],
+            rank: [None; 256],
+            slots: [none; 256],
         }
     }
 
     // One more block, with no wires, at the highest rank.
-    fn appended(self, slot: u8, block: Block) -> Wiring
-        requires free { is_placed (layout self) slot ≡ false }
+    fn append(&mut self, slot: u8, block: Block)
+        requires free { is_placed (layout self.old) slot ≡ false }
         requires few { block.ports ≤ 3 }
         requires bare { block.source ≡ replicate 3 None }
-        ensures { Same (layout result) (inserted (layout self) slot block.ports block.late) }
+        ensures { Same (layout self.new) (inserted (layout self.old) slot block.ports block.late) }
     {
-        let Wiring {
-            count,
-            mut order,
-            mut rank,
-            mut live,
-            mut slots,
-        } = self;
-        order[count] = slot;
-        rank[slot as usize] = count as u8;
-        live[slot as usize] = true;
-        slots[slot as usize] = block;
-        Wiring {
-            count: count + 1,
-            order,
-            rank,
-            live,
-            slots,
-        }
+        self.order[self.count] = slot;
+        self.rank[slot as usize] = Some(self.count as u8);
+        self.slots[slot as usize] = block;
+        self.count += 1;
     }
 
-    // The block at a slot with no ports, and no wire from it. The order stays.
-    fn cleared(self, slot: u8) -> Wiring
-        ensures order { (layout result).order ≡ (layout self).order }
-        ensures ports { (t : ℕ) → (layout result).ports t ≡ (if nat_eq t slot then 0 else (layout self).ports t) }
-        ensures late { (t p : ℕ) → (layout result).late t p ≡ (if nat_eq t slot then false else (layout self).late t p) }
-        ensures source { (t p : ℕ) → (layout result).source t p ≡ (if nat_eq t slot then None else off slot ((layout self).source t p)) }
-        ensures bare { (s t : ℕ) → WireTo (layout result) s t → (s ≢ slot) × (t ≢ slot) }
+    // No ports for the block at a slot, and no wire from it. The order stays.
+    fn clear(&mut self, slot: u8)
+        ensures order { (layout self.new).order ≡ (layout self.old).order }
+        ensures ports { (t : ℕ) → (layout self.new).ports t ≡ (if nat_eq t slot then 0 else (layout self.old).ports t) }
+        ensures late { (t p : ℕ) → (layout self.new).late t p ≡ (if nat_eq t slot then false else (layout self.old).late t p) }
+        ensures source { (t p : ℕ) → (layout self.new).source t p ≡ (if nat_eq t slot then None else off slot ((layout self.old).source t p)) }
+        ensures bare { (s t : ℕ) → WireTo (layout self.new) s t → (s ≢ slot) × (t ≢ slot) }
     {
-        let Wiring {
-            count,
-            order,
-            rank,
-            live,
-            slots,
-        } = self;
-        let mut slots = cut_off(slots, slot);
-        slots[slot as usize] = Block::none();
-        Wiring {
-            count,
-            order,
-            rank,
-            live,
-            slots,
-        }
+        cut_off(&mut self.slots, slot);
+        self.slots[slot as usize] = Block::none();
     }
 
-    // A block that has no wires taken out of the order.
-    fn taken_out(self, slot: u8) -> Wiring
-        requires placed { is_placed (layout self) slot ≡ true }
-        requires bare { (s t : ℕ) → WireTo (layout self) s t → (s ≢ slot) × (t ≢ slot) }
-        ensures order { (layout result).order ≡ filter (λ t. not (t == slot)) (layout self).order }
-        ensures ports { (t : ℕ) → (layout result).ports t ≡ (layout self).ports t }
-        ensures late { (t p : ℕ) → (layout result).late t p ≡ (layout self).late t p }
-        ensures source { (t p : ℕ) → (layout result).source t p ≡ (layout self).source t p }
+    // Takes a block that has no wires out of the order.
+    fn take_out(&mut self, slot: u8)
+        requires placed { is_placed (layout self.old) slot ≡ true }
+        requires bare { (s t : ℕ) → WireTo (layout self.old) s t → (s ≢ slot) × (t ≢ slot) }
+        ensures order { (layout self.new).order ≡ filter (λ t. not (t == slot)) (layout self.old).order }
+        ensures ports { (t : ℕ) → (layout self.new).ports t ≡ (layout self.old).ports t }
+        ensures late { (t p : ℕ) → (layout self.new).late t p ≡ (layout self.old).late t p }
+        ensures source { (t p : ℕ) → (layout self.new).source t p ≡ (layout self.old).source t p }
     {
-        let Wiring {
-            count,
-            order,
-            rank,
-            mut live,
-            slots,
-        } = self;
-        let from = rank[slot as usize] as usize;
-        let (order, rank) = close_up(order, rank, from, count - 1);
-        live[slot as usize] = false;
-        Wiring {
-            count: count - 1,
-            order,
-            rank,
-            live,
-            slots,
-        }
+        let from = self.rank_at(slot) as usize;
+        self.count -= 1;
+        close_up(&mut self.order, &mut self.rank, from, self.count);
+        self.rank[slot as usize] = None;
     }
 
-    // A port fed from another slot or from none. The order stays, so a direct wire has to ascend in it.
-    pub(crate) fn fed_from(self, target: u8, port: u8, from: Option<u8>) -> Wiring
-        requires target { is_placed (layout self) target ≡ true }
-        requires port { port < (layout self).ports target }
-        requires from { (s : ℕ) → from ≡ Some s → (is_placed (layout self) s ≡ true) × ((layout self).late target port ≡ false → rank_of (layout self) s < rank_of (layout self) target) }
-        ensures same { Same (layout result) (rewired (layout self) target port from) }
-        ensures free { HasRing (Direct (rewired (layout self) target port from)) → ⊥ }
+    // Feeds a port from another slot or from none. The order stays, so a direct wire has to ascend in it.
+    pub(crate) fn feed(&mut self, target: u8, port: u8, from: Option<u8>)
+        requires target { is_placed (layout self.old) target ≡ true }
+        requires port { port < (layout self.old).ports target }
+        requires from { (s : ℕ) → from ≡ Some s → (is_placed (layout self.old) s ≡ true) × ((layout self.old).late target port ≡ false → rank_of (layout self.old) s < rank_of (layout self.old) target) }
+        ensures same { Same (layout self.new) (rewired (layout self.old) target port from) }
+        ensures free { HasRing (Direct (rewired (layout self.old) target port from)) → ⊥ }
     {
-        let Wiring {
-            count,
-            order,
-            rank,
-            live,
-            mut slots,
-        } = self;
-        let block = slots[target as usize];
-        slots[target as usize] = block.with_source(port as usize, from);
-        Wiring {
-            count,
-            order,
-            rank,
-            live,
-            slots,
-        }
+        self.slots[target as usize].feed(port as usize, from);
     }
 }

@@ -1,11 +1,12 @@
 //! What a diagram reads of its wiring.
-ghost use Rattle.std.specs.Prelude.{◌≡◌, ℕ, ◌<◌, ◌≤◌, true, false, take, if◌then◌else◌, Some, None, slice_index_or};
+ghost use Rattle.std.specs.Prelude.{◌≡◌, ℕ, ◌<◌, ◌≤◌, true, false, take, if◌then◌else◌, Option, Some, None, IfOk, IfErr, slice_index_or};
+ghost use Rattle.wiring.specs.Faults.{port_fault};
 ghost use Rattle.wiring.specs.Layout.{is_placed, rank_of};
 ghost use Rattle.wiring.specs.Lawful.{Lawful};
 ghost use Rattle.wiring.specs.View.{layout};
 
 use crate::block::Block;
-use crate::wiring::Wiring;
+use crate::wiring::{Fault, Wiring};
 
 impl Wiring {
     /// The slots where a block stands, by rank.
@@ -17,14 +18,11 @@ impl Wiring {
     }
 
     /// The rank of the block at a slot, if one stands there.
+    #[tactic(auto, using(crate::proofs::Whole::entry_at))]
     pub fn rank(&self, slot: u8) -> Option<u8>
         ensures { result ≡ (if is_placed (layout self.now) slot then Some (rank_of (layout self.now) slot) else None) }
     {
-        if self.stands(slot) {
-            Some(self.rank_at(slot))
-        } else {
-            None
-        }
+        self.rank[slot as usize]
     }
 
     /// The block at a slot: one of no ports where none stands there.
@@ -45,11 +43,26 @@ impl Wiring {
         &self.order[0..n]
     }
 
+    // The slot that feeds a port of a block that stands, if one does.
+    pub(crate) fn source_of(&self, target: u8, port: u8) -> Result<Option<u8>, Fault>
+        ensures ok { IfOk result (λ s. (is_placed (layout self.now) target ≡ true) × (port < (layout self.now).ports target) × (s ≡ (layout self.now).source target port)) }
+        ensures err { IfErr result (λ e. (later : Option Fault) → port_fault (layout self.now) target port later ≡ Some e) }
+    {
+        if !self.stands(target) {
+            return Err(Fault::NoBlock);
+        }
+        let block = self.block(target);
+        if port >= block.ports {
+            return Err(Fault::NoPort);
+        }
+        Ok(block.source[port as usize])
+    }
+
     // Whether a block stands at a slot.
     pub(crate) fn stands(&self, slot: u8) -> bool
         ensures { result ≡ is_placed (layout self.now) slot }
     {
-        self.live[slot as usize]
+        self.rank(slot).is_some()
     }
 
     // The rank of a block that stands.
@@ -58,6 +71,6 @@ impl Wiring {
         ensures rank { result ≡ rank_of (layout self.now) slot }
         ensures below { result < self.now.count }
     {
-        self.rank[slot as usize]
+        self.rank(slot).unwrap()
     }
 }

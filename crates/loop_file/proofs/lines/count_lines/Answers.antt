@@ -1,29 +1,38 @@
-use Rattle.std.proofs.Common.{◌≡◌, [], length, drop, sym, refl, ap, ◌∙◌, subst, inr, arith, length-drop, below_more}
+use Rattle.std.proofs.Common.{rules, ap, arith, inl, inr, length, [], refl, zero-le}
+use Rattle.std.proofs.lemmas.Iterator.{IsFirst-from_position}
+use Rattle.std.proofs.lemmas.Iterator.Consumers.{YieldsList-from_first, count_from_yields_List}
+use Rattle.words.specs.Left.{lines_left}
 use Rattle.words.specs.Parts.{lines_of}
-use Rattle.loop_file.specs.Files.{FitBelow}
-use Rattle.loop_file.specs.Lines.{Fits, order}
-use Rattle.loop_file.proofs.Turns.{line_at}
+use Rattle.loop_file.specs.Lines.{Fits}
+use Rattle.loop_file.proofs.Turns.{few_lines, fit, unfit}
 use Rattle.loop_file.proofs.lines.count_lines.Goals as goal
 
-pub returns-in_default-command_of : goal.returns-in_default-command_of
-returns-in_default-command_of c =
-    let l = line_at _ _ _ c.loop-line.lines (sym c.loop-line.invariant.1 ∙ c.in-Some.ensures.gives.0) in
-    inr (c.loop-line.lines, refl, omega arith, l.0, c.loop-line.invariant.2, λ f. c.in_default-command_of.ensures.said (subst Fits l.1 f))
+pub position-requires-clause-fits : goal.position-requires-clause-fits
+position-requires-clause-fits c = inl (omega (arith, few_lines c.args.file.now, ap length c.of.ensures.lines))
 
-pub loop-line-preserved : goal.loop-line-preserved
-loop-line-preserved c =
-    let l = line_at _ _ _ c.loop-line.lines (sym c.loop-line.invariant.1 ∙ c.in-Some.ensures.gives.0) in (
-      ap (λ t. t.now) c.in-Some.ensures.same.0 ∙ c.loop-line.invariant.0,
-      l.2,
-      below_more _ _ c.loop-line.invariant.2 (subst Fits (sym l.1) (order c.in-Some-command_of.field-0, c.in-Some-command_of.ensures.said)),
-      omega (arith, l.0),
-      omega (arith, c.in-Some.ensures.gives.1),
-    )
+pub overflow_cast-result : goal.overflow_cast-result
+overflow_cast-result c = search (rules, few_lines c.args.file.now, ap length c.of.ensures.lines)
 
-pub returns : goal.returns
-returns c =
+pub overflow_add-result : goal.overflow_add-result
+overflow_add-result c = search (rules, few_lines c.args.file.now, ap length c.of.ensures.lines)
+
+pub count-requires-clause-fits : goal.count-requires-clause-fits
+count-requires-clause-fits c = inl (omega (arith, few_lines c.args.file.now, ap length c.of-in-None.ensures.lines))
+
+pub overflow_cast-result-in-None : goal.overflow_cast-result-in-None
+overflow_cast-result-in-None c = search (rules, few_lines c.args.file.now, ap length c.of-in-None.ensures.lines)
+
+pub returns-in-Some : goal.returns-in-Some
+returns-in-Some c =
     let lines = lines_of c.args.file.now in
-    let none : drop c.loop-line.lines lines ≡ [] = sym c.loop-line.invariant.1 ∙ c.in_default.ensures.gives in
-    let all : c.loop-line.lines ≡ length lines = omega (arith, sym (length-drop c.loop-line.lines lines) ∙ ap length none) in
-    let fit : FitBelow (length lines) lines = subst (λ n. FitBelow n lines) all c.loop-line.invariant.2 in
-    ((omega arith, fit), (λ k h un. un (fit k h)), all)
+    let f = IsFirst-from_position c.position.new.self _ c.position.result (λ l. Fits l → ⊥) Fits c.position.ensures.ran (YieldsList-from_first (λ x. x.now) lines_left {s = c.of.result} lines c.of.ensures.lines) (λ x q k. search (rules, unfit)) (λ x q k. search (rules, fit)) in
+    let g = rw c.in-Some.is at f in
+    inr (c.in-Some.before, refl, omega arith, g.0, λ k h. g.2 k [] zero-le h, g.1 [])
+
+pub returns-in-None : goal.returns-in-None
+returns-in-None c =
+    let lines = lines_of c.args.file.now in
+    let f = IsFirst-from_position c.position.new.self _ c.position.result (λ l. Fits l → ⊥) Fits c.position.ensures.ran (YieldsList-from_first (λ x. x.now) lines_left {s = c.of.result} lines c.of.ensures.lines) (λ x q k. search (rules, unfit)) (λ x q k. search (rules, fit)) in
+    let g = rw c.in-None.is at f in
+    let n = count_from_yields_List c.of-in-None.result c.count.result c.count.ensures.ran (YieldsList-from_first (λ x. x.now) lines_left {s = c.of-in-None.result} lines c.of-in-None.ensures.lines) in
+    ((omega arith, λ k h. g k [] zero-le h), (λ k h un. un (g k [] zero-le h)), n)

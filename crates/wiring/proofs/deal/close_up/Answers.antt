@@ -1,30 +1,43 @@
-use Rattle.std.proofs.Common.{◌≡◌, ◌+◌, ◌<◌, length, get_or, set, sym, ap, ◌∙◌, inl, inr, arith, rules}
-use Rattle.std.proofs.lemmas.List.{length-set, get_or-set_same, get_or-set_other}
-use Rattle.std.proofs.lemmas.Bool.{cases_eq}
+use Rattle.std.proofs.Common.{◌≡◌, ℕ, ◌+◌, ◌-◌, ◌<◌, Bool, true, false, List, get_or, sym, ap, ◌∙◌, arith}
+use Rattle.std.specs.List.{CopiedTo}
+use Rattle.wiring.specs.Pass.{segment}
+use Rattle.wiring.specs.Sound.{live_of, rank_in}
+use Rattle.wiring.proofs.Standing.{rank_in-set, live_still, live_in}
+use Rattle.wiring.proofs.Places.{length-segment, seg_of}
+use Rattle.wiring.proofs.Ranking.{ranking_more}
 use Rattle.wiring.proofs.deal.close_up.Goals as goal
 
--- the slot at i + 1 moves to i
+-- what stands in the segment stood one rank higher
+lowered : (xs ys : List ℕ) (a b : ℕ) → CopiedTo xs ys (a + 1) a (b + 1 - (a + 1)) → (k : ℕ) → k < b - a → get_or (segment ys a b) k 0 ≡ get_or xs (a + k + 1) 0
+lowered xs ys a b copied k l = seg_of ys a b k l ∙ copied (a + k) 0 (omega arith) (omega arith) ∙ ap (λ n. get_or xs n 0) (let z : a + 1 + (a + k - a) ≡ a + k + 1 = omega arith in z)
+
 pub loop-i-preserved : goal.loop-i-preserved
 loop-i-preserved c =
-    let old = c.args.order in
-    let xs = c.loop-i.order in
-    let rs = c.loop-i.rank in
+    let a = c.args.from in
     let i = c.loop-i.i in
-    let x = get_or xs (i + 1) 0 in
     let inv = c.loop-i.invariant in
-    let is : x ≡ get_or old (i + 1) 0 = inv.4 (i + 1) (omega arith) in
-    let small : x < length rs = search rules in (
-      length-set xs i x ∙ inv.0,
-      length-set rs x i ∙ inv.1,
-      (λ k h. get_or-set_other xs i k x 0 (omega arith) ∙ inv.2 k h),
-      (λ k h l. elim (cases_eq k i) [
-        | inl e ↦ ap (λ n. get_or (set xs i x) n 0) e ∙ get_or-set_same xs i x 0 (omega arith) ∙ is ∙ ap (λ n. get_or old (n + 1) 0) (sym e)
-        | inr ne ↦ get_or-set_other xs i k x 0 ne ∙ inv.3 k h (omega arith)
-      ]),
-      (λ k h. get_or-set_other xs i k x 0 (omega arith) ∙ inv.4 k (omega arith)),
-      (λ k h l. elim (cases_eq k i) [
-        | inl e ↦ ap (λ n. get_or (set rs x i) n 0) (ap (λ n. get_or old (n + 1) 0) e ∙ sym is) ∙ get_or-set_same rs x i 0 small ∙ sym e
-        | inr ne ↦ get_or-set_other rs x (get_or old (k + 1) 0) i 0 (λ e. let z : k + 1 ≡ i + 1 = sym (c.requires.ranked (k + 1) (omega arith) (omega arith)) ∙ ap (λ s. get_or c.args.rank s 0) (e ∙ is) ∙ c.requires.ranked (i + 1) (omega arith) (omega arith) in omega arith) ∙ inv.5 k h (omega arith)
-      ]),
-      (λ s none. get_or-set_other rs x s i 0 (λ e. none i (omega arith) (omega arith) (sym is ∙ sym e)) ∙ inv.6 s (λ k h l. none k h (omega arith))),
-    )
+    let stood = lowered c.args.order.now c.copy_within.new.self a c.args.last c.copy_within.ensures.by_index.0 in
+    let slot = get_or (segment c.copy_within.new.self a c.args.last) i 0 in
+    let low : i < c.args.last - a = omega (arith, length-segment c.copy_within.new.self a c.args.last (omega arith) (omega arith), c.loop-i-test.true) in
+    let on : get_or (live_of c.loop-i.rank) slot false ≡ true = ap (λ (xs : List Bool). get_or xs slot false) inv.live ∙ ap (λ s. get_or (live_of c.args.rank.now) s false) (stood i low) ∙ c.requires.live (a + i + 1) (omega arith) (omega arith) in
+    record {
+      ranking = rw (rank_in-set c.loop-i.rank slot (a + i)) (ranking_more (λ k l e.
+          let z : a + k + 1 ≡ a + i + 1 = sym (c.requires.ranked (a + k + 1) (omega arith) (omega arith)) ∙ ap (λ s. get_or (rank_in c.args.rank.now) s 0) (sym (stood k (omega arith)) ∙ e ∙ stood i low) ∙ c.requires.ranked (a + i + 1) (omega arith) (omega arith) in
+          omega arith)
+          (live_in c.loop-i.rank slot on) inv.ranking);
+      live = live_still c.loop-i.rank slot (a + i) on ∙ inv.live;
+    }
+
+pub returns-clause-here : goal.returns-clause-here
+returns-clause-here c = λ r u v.
+    let a = c.args.from in
+    let stood = lowered c.args.order.now c.copy_within.new.self a c.args.last c.copy_within.ensures.by_index.0 in
+    let z : a + (r - a) ≡ r = omega arith in
+    ap (λ n. get_or (rank_in c.loop-i.rank) n 0) (ap (λ n. get_or c.args.order.now (n + 1) 0) (sym z) ∙ sym (stood (r - a) (omega arith)))
+    ∙ c.loop-i.invariant.ranking.here (r - a) (omega (arith, length-segment c.copy_within.new.self a c.args.last (omega arith) (omega arith))) ∙ z
+
+pub returns-clause-other : goal.returns-clause-other
+returns-clause-other c = λ s none.
+    let a = c.args.from in
+    let stood = lowered c.args.order.now c.copy_within.new.self a c.args.last c.copy_within.ensures.by_index.0 in
+    c.loop-i.invariant.ranking.other s (λ k l e. let low : k < c.args.last - a = omega (arith, length-segment c.copy_within.new.self a c.args.last (omega arith) (omega arith)) in none (a + k) (omega arith) (omega arith) (sym (stood k low) ∙ e))

@@ -1,6 +1,0 @@
-use Rattle.std.proofs.Common.{sym, subst}
-use Rattle.loop_file.specs.Files.{NoneUnfit}
-use Rattle.loop_file.proofs.commands.Commands.new.Goals as goal
-
-pub invariant_of-result : goal.invariant_of-result
-invariant_of-result c = record { fit = subst NoneUnfit (sym c.new.ensures.lines) c.requires }
