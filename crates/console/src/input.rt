@@ -16,10 +16,10 @@ pub fn answer<F: Family>(
     diagram: &mut Diagram<F>,
     records: &mut [F::Record],
     signals: &mut [F::Signal],
+    file: &mut [u8],
+    reply: &mut [u8],
 ) -> io::Result<()> {
-    let mut file = [0u8; 16385];
-    let mut reply = [0u8; 32768];
-    let size = fill(&mut rt.stdin(), &mut file)?;
+    let size = fill(&mut rt.stdin(), file)?;
     let mut names = Names::empty();
     let Report { written, outcome } = serve(
         &file[..size],
@@ -27,7 +27,7 @@ pub fn answer<F: Family>(
         &mut names,
         records,
         signals,
-        &mut reply,
+        reply,
     );
     let mut output = rt.stdout();
     output.write_all(&reply[..written])?;

@@ -24,7 +24,10 @@ fn handle_of<F: Family>(diagram: &Diagram<F>, names: &Names, name: &[u8]) -> Res
     if diagram.is_open() {
         return Err(Refusal::DiagramOpen);
     }
-    names.find(diagram, name).ok_or(Refusal::UnknownName)
+    let Some(handle) = names.find(diagram, name) else {
+        return Err(Refusal::UnknownName);
+    };
+    Ok(handle)
 }
 
 // A `wire` line.
@@ -38,7 +41,9 @@ pub(crate) fn wire<F: Family>(
     ensures { (records : List F.Record) (signals : List F.Signal) (said : List ℕ) (room : ℕ) → Tried (meaning F.Family) (λ _. 0) (wire_line target.now port source.now) (desk diagram.old records signals names.now said room) result (lent diagram.new records signals) }
 {
     let to = handle_of(diagram, names, target)?;
-    let from = names.find(diagram, source).ok_or(Refusal::UnknownName)?;
+    let Some(from) = names.find(diagram, source) else {
+        return Err(Refusal::UnknownName);
+    };
     diagram.wire(to, port, from)
 }
 
@@ -134,7 +139,9 @@ pub(crate) fn show<F: Family>(
     requires at { at ≤ length reply.old }
     ensures { (records : List F.Record) → Showed (meaning F.Family) name.now (desk diagram.now records signals.now names.now (take at reply.old) (length reply.old)) reply.old at result reply.new }
 {
-    let handle = names.find(diagram, name).ok_or(Refusal::UnknownName)?;
+    let Some(handle) = names.find(diagram, name) else {
+        return Err(Refusal::UnknownName);
+    };
     write_shown(reply, at, name, number_at(diagram, signals, handle))
 }
 
