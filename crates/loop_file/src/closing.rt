@@ -3,9 +3,9 @@ ghost use Rattle.std.specs.Prelude.{◌≡◌, ◌<◌, length, Ok, Err, MatchRe
 ghost use Rattle.refusal.specs.declared.refusals.Refusal.TheVariants.{BufferTooShort};
 ghost use Rattle.loop_file.specs.Closing.{closing, Wrote};
 
-use crate::put::put;
+use crate::put::{add, put};
 use crate::stop::Stop;
-use arrayvec::ArrayString;
+use arrayvec::ArrayVec;
 use itoa::Buffer;
 use refusal::Refusal;
 
@@ -17,12 +17,12 @@ pub fn close(outcome: Result<u32, Stop>, buffer: &mut [u8]) -> Result<usize, Ref
     if line.len() > buffer.len() {
         return Err(Refusal::BufferTooShort);
     }
-    Ok(put(buffer, 0, line.as_bytes()))
+    Ok(put(buffer, 0, line.as_slice()))
 }
 
 // The line.
-fn closing_line(outcome: Result<u32, Stop>) -> ArrayString<20>
-    ensures { result.bytes ≡ closing outcome }
+fn closing_line(outcome: Result<u32, Stop>) -> ArrayVec<u8, 20>
+    ensures { result.items ≡ closing outcome }
 {
     match outcome {
         Ok(lines) => end_line(lines),
@@ -30,24 +30,27 @@ fn closing_line(outcome: Result<u32, Stop>) -> ArrayString<20>
     }
 }
 
-fn end_line(lines: u32) -> ArrayString<20>
-    ensures { result.bytes ≡ closing (Ok lines) }
+fn end_line(lines: u32) -> ArrayVec<u8, 20>
+    ensures { result.items ≡ closing (Ok lines) }
 {
-    let mut line = ArrayString::new();
-    line.push_str("end ");
-    line.push_str(Buffer::new().format(lines));
-    line.push_str("\n");
+    let mut line = ArrayVec::new();
+    add(&mut line, b"end ");
+    add(&mut line, Buffer::new().format(lines).as_bytes());
+    add(&mut line, b"\n");
     line
 }
 
-fn stop_line(stop: Stop) -> ArrayString<20>
-    ensures { result.bytes ≡ closing (Err stop) }
+fn stop_line(stop: Stop) -> ArrayVec<u8, 20>
+    ensures { result.items ≡ closing (Err stop) }
 {
-    let mut line = ArrayString::new();
-    line.push_str("stop ");
-    line.push_str(Buffer::new().format(stop.line));
-    line.push_str(" ");
-    line.push_str(Buffer::new().format(stop.refusal.number()));
-    line.push_str("\n");
+    let mut line = ArrayVec::new();
+    add(&mut line, b"stop ");
+    add(&mut line, Buffer::new().format(stop.line).as_bytes());
+    add(&mut line, b" ");
+    add(
+        &mut line,
+        Buffer::new().format(stop.refusal.number()).as_bytes(),
+    );
+    add(&mut line, b"\n");
     line
 }

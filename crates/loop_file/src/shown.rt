@@ -4,8 +4,8 @@ ghost use Rattle.refusal.specs.declared.refusals.Refusal.TheVariants.{BufferTooS
 ghost use Rattle.loop_file.specs.Closing.{Wrote};
 ghost use Rattle.loop_file.specs.Shown.{shown, numbered};
 
-use crate::put::put;
-use arrayvec::ArrayString;
+use crate::put::{add, put};
+use arrayvec::ArrayVec;
 use itoa::Buffer;
 use refusal::Refusal;
 
@@ -18,7 +18,7 @@ pub fn write_shown(reply: &mut [u8], at: usize, name: &[u8], number: i32) -> Res
         return Err(Refusal::BufferTooShort);
     }
     let on = put(reply, at, name);
-    Ok(put(reply, on, end.as_bytes()))
+    Ok(put(reply, on, end.as_slice()))
 }
 
 // Whether `a` bytes and then `b` bytes have room from a place on.
@@ -29,12 +29,12 @@ fn has_room(room: usize, at: usize, a: usize, b: usize) -> bool
 }
 
 // A space, a number and the end of the line.
-fn numbered(number: i32) -> ArrayString<13>
-    ensures { result.bytes ≡ numbered number }
+fn numbered(number: i32) -> ArrayVec<u8, 13>
+    ensures { result.items ≡ numbered number }
 {
-    let mut end = ArrayString::new();
-    end.push_str(" ");
-    end.push_str(Buffer::new().format(number));
-    end.push_str("\n");
+    let mut end = ArrayVec::new();
+    add(&mut end, b" ");
+    add(&mut end, Buffer::new().format(number).as_bytes());
+    add(&mut end, b"\n");
     end
 }
