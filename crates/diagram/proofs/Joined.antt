@@ -1,6 +1,5 @@
 -- A diagram whose wiring was given one more wire, or was asked for it.
-use Rattle.std.proofs.Common.{◌≡◌, ℕ, Bool, not, ◌&&◌, ltb, Some, sym, refl, ap, ◌∙◌, subst}
-use Rattle.std.proofs.Math.Bool.{Bool-set}
+use Rattle.std.proofs.Common.{◌≡◌, ℕ, Bool, not, ◌&&◌, ltb, Some, sym, refl, ap, ◌∙◌}
 use Rattle.wiring.specs.declared.wiring.Wiring.{Wiring}
 use Rattle.wiring.specs.Layout.{is_placed}
 use Rattle.wiring.specs.Order.{Connected}
@@ -30,9 +29,3 @@ module _ {F : Type 0} (d : Diagram F) where
     scan = refl;
     scans = refl;
   })
-
-  -- with the wiring that it had it is the same diagram
-  pub same_diagram : (w : Wiring) (agree : (s : ℕ) → is_placed (layout w) s ≡ (ledger d.slots).placed s) → w ≡ d.wiring → with_wiring w agree ≡ d
-  same_diagram w agree e =
-      subst (λ (x : Wiring). (a : (s : ℕ) → is_placed (layout x) s ≡ (ledger d.slots).placed s) → with_wiring x a ≡ d) (sym e)
-      (λ a i. record d { agree = λ s. Bool-set _ _ (a s) (d.agree s) i }) agree

@@ -15,8 +15,8 @@ enum Edit {
     Disconnect(u8, u8),
 }
 
-// Makes an edit.
-fn edited(wiring: &mut Wiring, edit: Edit) -> Result<(), Fault> {
+// The wiring after an edit.
+fn edited(wiring: Wiring, edit: Edit) -> Result<Wiring, Fault> {
     match edit {
         Edit::Place(slot) => wiring.insert(
             slot,
@@ -35,7 +35,9 @@ fn edited(wiring: &mut Wiring, edit: Edit) -> Result<(), Fault> {
 // Makes some edits, each of which has its answer.
 fn played(rt: &impl Abort, wiring: &mut Wiring, script: &[(Edit, Option<Fault>)]) {
     for (edit, answer) in script {
-        assert_eq!(rt; edited(wiring, *edit).err(), *answer);
+        let result = edited(*wiring, *edit);
+        assert_eq!(rt; result.err(), *answer);
+        *wiring = result.unwrap_or(*wiring);
     }
 }
 

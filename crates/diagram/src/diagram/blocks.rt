@@ -68,7 +68,7 @@ impl<F: Family> Diagram<F> {
         ensures chart { chart self.new ≡ placing (meaning F.Family) block slot (chart self.old) }
         ensures order { (layout self.new.wiring).order ≡ (layout self.old.wiring).order ++ (slot ∷ []) }
     {
-        self.wiring.insert(slot, shape_of::<F>(block)).unwrap();
+        self.wiring = self.wiring.insert(slot, shape_of::<F>(block)).unwrap();
         self.slots.take();
     }
 
@@ -78,7 +78,7 @@ impl<F: Family> Diagram<F> {
         ensures chart { chart self.new ≡ removing slot (chart self.old) }
         ensures order { (layout self.new.wiring).order ≡ filter (λ s. not (s == slot)) (layout self.old.wiring).order }
     {
-        self.wiring.remove(slot).unwrap();
+        self.wiring = self.wiring.remove(slot).unwrap();
         self.slots.release(slot);
     }
 }

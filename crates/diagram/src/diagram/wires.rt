@@ -40,8 +40,10 @@ impl<F: Family> Diagram<F> {
         ensures ok { OnOk result ((chart self.new ≡ sourcing (slot target) port (Some (slot source)) (chart self.old)) × NewOrder (layout self.old.wiring) (slot target) port (slot source) (layout self.new.wiring).order) }
         ensures err { OnErr result ((self.new ≡ self.old) × HasRing (DirectSlots (sourcing (slot target) port (Some (slot source)) (chart self.old)))) }
     {
-        self.wiring
-            .connect((target % 256) as u8, port, (source % 256) as u8)
+        let (to, from) = ((target % 256) as u8, (source % 256) as u8);
+        let wiring = self.wiring.connect(to, port, from)?;
+        self.wiring = wiring;
+        Ok(())
     }
 
     // No wire into a port of a slot.
@@ -52,6 +54,6 @@ impl<F: Family> Diagram<F> {
         ensures chart { chart self.new ≡ sourcing at port None (chart self.old) }
         ensures order { (layout self.new.wiring).order ≡ (layout self.old.wiring).order }
     {
-        self.wiring.disconnect(at, port).unwrap();
+        self.wiring = self.wiring.disconnect(at, port).unwrap();
     }
 }

@@ -1,5 +1,5 @@
 //! One more wire: its faults, the pass that finds the blocks ahead, and the one that moves them.
-ghost use Rattle.std.specs.Prelude.{◌≡◌, ℕ, ◌+◌, ◌<◌, ◌≤◌, true, false, length, replicate, Some, None, OnOk, IfErr, Decides, slice_index_or, slice_set};
+ghost use Rattle.std.specs.Prelude.{◌≡◌, ℕ, ◌+◌, ◌<◌, ◌≤◌, true, false, length, replicate, Some, None, OnOk, IfOk, IfErr, Decides, slice_index_or, slice_set};
 ghost use Rattle.wiring.specs.Faults.{connect_fault, ClosesRing, ConnectRefused};
 ghost use Rattle.wiring.specs.Layout.{is_placed, rank_of};
 ghost use Rattle.wiring.specs.Order.{Connected, Descends};
@@ -24,21 +24,21 @@ impl Wiring {
     /// Where the port is late, or the source stands before the target, the
     /// order stays. Else those ahead, which are the target and the blocks that
     /// direct wires reach from it up to the source, move behind the others.
-    pub fn connect(&mut self, target: u8, port: u8, source: u8) -> Result<(), Fault>
-        ensures ok { OnOk result ((connect_fault (layout self.old) target port source ≡ None) × (ClosesRing (layout self.old) target port source → ⊥) × Connected (layout self.old) (layout self.new) target port source) }
-        ensures err { IfErr result (λ e. (self.new ≡ self.old) × ConnectRefused (layout self.old) target port source e) }
+    pub fn connect(mut self, target: u8, port: u8, source: u8) -> Result<Wiring, Fault>
+        ensures ok { IfOk result (λ w. (connect_fault (layout self) target port source ≡ None) × (ClosesRing (layout self) target port source → ⊥) × Connected (layout self) (layout w) target port source) }
+        ensures err { IfErr result (λ e. ConnectRefused (layout self) target port source e) }
     {
         self.check_wire(target, port, source)?;
         if !self.descends(target, port, source) {
             self.join(target, port, source);
-            return Ok(());
+            return Ok(self);
         }
         let ahead = self.ahead(target, source);
         if ahead.marks[source as usize] {
             return Err(Fault::Ring);
         }
         self.move_and_join(target, port, source, &ahead);
-        Ok(())
+        Ok(self)
     }
 
     // The first fault of a wire, but for a ring.

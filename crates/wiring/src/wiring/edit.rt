@@ -1,5 +1,5 @@
 //! Blocks that come and go, and wires that are cut.
-ghost use Rattle.std.specs.Prelude.{◌≡◌, ℕ, ◌<◌, ◌≤◌, true, false, not, replicate, if◌then◌else◌, Some, None, OnOk, IfErr, filter, ◌==◌, ◌≢◌, nat_eq};
+ghost use Rattle.std.specs.Prelude.{◌≡◌, ℕ, ◌<◌, ◌≤◌, true, false, not, replicate, if◌then◌else◌, Some, None, IfOk, IfErr, filter, ◌==◌, ◌≢◌, nat_eq};
 ghost use Rattle.wiring.specs.Change.{Same, nothing, inserted, removed, rewired, off};
 ghost use Rattle.wiring.specs.Faults.{insert_fault, remove_fault, disconnect_fault};
 ghost use Rattle.wiring.specs.Layout.{is_placed, rank_of, Direct, WireTo};
@@ -19,9 +19,9 @@ impl Wiring {
     }
 
     /// Places a block with no wires at a slot, at the highest rank.
-    pub fn insert(&mut self, slot: u8, shape: Shape) -> Result<(), Fault>
-        ensures ok { OnOk result ((insert_fault (layout self.old) slot shape.ports ≡ None) × Same (layout self.new) (inserted (layout self.old) slot shape.ports shape.late)) }
-        ensures err { IfErr result (λ e. (self.new ≡ self.old) × (insert_fault (layout self.old) slot shape.ports ≡ Some e)) }
+    pub fn insert(mut self, slot: u8, shape: Shape) -> Result<Wiring, Fault>
+        ensures ok { IfOk result (λ w. (insert_fault (layout self) slot shape.ports ≡ None) × Same (layout w) (inserted (layout self) slot shape.ports shape.late)) }
+        ensures err { IfErr result (λ e. insert_fault (layout self) slot shape.ports ≡ Some e) }
     {
         if self.stands(slot) {
             return Err(Fault::Occupied);
@@ -30,33 +30,33 @@ impl Wiring {
             return Err(Fault::TooManyPorts);
         }
         self.append(slot, Block::open(shape));
-        Ok(())
+        Ok(self)
     }
 
     /// Takes the block at a slot out, with the wires to it and from it.
     /// Those of a higher rank move down by one.
-    pub fn remove(&mut self, slot: u8) -> Result<(), Fault>
-        ensures ok { OnOk result ((remove_fault (layout self.old) slot ≡ None) × Same (layout self.new) (removed (layout self.old) slot)) }
-        ensures err { IfErr result (λ e. (self.new ≡ self.old) × (remove_fault (layout self.old) slot ≡ Some e)) }
+    pub fn remove(mut self, slot: u8) -> Result<Wiring, Fault>
+        ensures ok { IfOk result (λ w. (remove_fault (layout self) slot ≡ None) × Same (layout w) (removed (layout self) slot)) }
+        ensures err { IfErr result (λ e. remove_fault (layout self) slot ≡ Some e) }
     {
         if !self.stands(slot) {
             return Err(Fault::NoBlock);
         }
         self.clear(slot);
         self.take_out(slot);
-        Ok(())
+        Ok(self)
     }
 
     /// Cuts the wire into a port. The order stays.
-    pub fn disconnect(&mut self, target: u8, port: u8) -> Result<(), Fault>
-        ensures ok { OnOk result ((disconnect_fault (layout self.old) target port ≡ None) × Same (layout self.new) (rewired (layout self.old) target port None)) }
-        ensures err { IfErr result (λ e. (self.new ≡ self.old) × (disconnect_fault (layout self.old) target port ≡ Some e)) }
+    pub fn disconnect(mut self, target: u8, port: u8) -> Result<Wiring, Fault>
+        ensures ok { IfOk result (λ w. (disconnect_fault (layout self) target port ≡ None) × Same (layout w) (rewired (layout self) target port None)) }
+        ensures err { IfErr result (λ e. disconnect_fault (layout self) target port ≡ Some e) }
     {
         if self.source_of(target, port)?.is_none() {
             return Err(Fault::Unwired);
         }
         self.feed(target, port, None);
-        Ok(())
+        Ok(self)
     }
 
     // A wiring with no block, where `none` is what stands for one.

@@ -11,7 +11,7 @@ use Rattle.diagram.proofs.diagram.Diagram.put_in.Goals as goal
 pub invariant_of-self : goal.invariant_of-self
 invariant_of-self g c =
     let d = c.args.self.now in
-    let w = c.insert.new.self in
+    let w = c.unwrap-self.result in
     let s = c.args.slot in
     let x = c.shape_of.result in
     let k : Same (ledger c.take.new.self) (filled (ledger d.slots) s) = search rules in
@@ -21,7 +21,7 @@ invariant_of-self g c =
 pub returns-clause-chart : goal.returns-clause-chart
 returns-clause-chart g c =
     let d = c.args.self.now in
-    let w = c.insert.new.self in
+    let w = c.unwrap-self.result in
     let s = c.args.slot in
     let x = c.shape_of.result in
     let e = c.shape_of.ensures in

@@ -9,7 +9,7 @@ use Rattle.diagram.proofs.diagram.Diagram.take_out.Goals as goal
 pub invariant_of-self : goal.invariant_of-self
 invariant_of-self g c =
     let d = c.args.self.now in
-    let w = c.remove.new.self in
+    let w = c.unwrap-self.result in
     let s = c.args.slot in
     let k : Same (ledger c.release.new.self) (emptied (ledger d.slots) s) = search rules in
     let l : SameLayout (layout w) (removed (layout d.wiring) s) = search rules in
