@@ -1,42 +1,25 @@
 -- The two laws of a family and its bound on ports, from what it owes of its kinds.
-use Rattle.std.specs.Prelude.{◌≡◌, ℕ, ◌≤◌, Bool, true, false, cond, not, ℤ, pos, is_some, Some, None, Option, refl}
+use Rattle.std.specs.Prelude.{◌≡◌, ℕ, ◌≤◌, true, not, ℤ, pos, is_some, Some, None, Option, refl}
 use Rattle.std.proofs.Common.{ap, ◌∙◌}
-use Rattle.std.proofs.lemmas.Bool.{cond-true, cond_both, and_parts, and_from}
+use Rattle.std.proofs.lemmas.Bool.{cond_both, and_parts, and_from}
 use Rattle.family.specs.declared.values.Inputs.{Inputs}
 use Rattle.family.specs.declared.values.Params.{Params}
 use Rattle.family.specs.Laws.{SamePorts, LateLaw, KindLaw}
-use Rattle.family.specs.Rules.{Rules, Lawful, fits, idle, kind_for, record_for, kind_in, counted, fed_of, meaning_of}
+use Rattle.family.specs.Rules.{Rules, Lawful, fits, idle, kind_in, counted, fed_of, meaning_of}
+use Rattle.family.proofs.Counting as counting
 
 module _ {K R S : Type 0} (q : Rules K R S) (law : Lawful q) where
   -- the idle record is of the plain kind
   idle_kind : q.of_code (q.code_in (idle q)) ≡ Some q.plain
   idle_kind = ap q.of_code (law.made_code (q.code q.plain) _ (pos 0)) ∙ law.coded q.plain
 
-  -- a record that passes counts as itself, any other as the idle one
-  by_test : (b : Bool) (t : K) (k : R) → fits q t k ≡ b → q.of_code (q.code_in k) ≡ Some t →
-      (fits q (cond b t q.plain) (cond b k (idle q)) ≡ true) × (q.of_code (q.code_in (cond b k (idle q))) ≡ Some (cond b t q.plain))
-  by_test true t k e c = (e, c)
-  by_test false t k e c = (law.idle_fits, idle_kind)
-
-  by_kind : (o : Option K) (k : R) → q.of_code (q.code_in k) ≡ o →
-      (fits q (kind_for q o k) (record_for q o k) ≡ true) × (q.of_code (q.code_in (record_for q o k)) ≡ Some (kind_for q o k))
-  by_kind None k c = (law.idle_fits, idle_kind)
-  by_kind (Some t) k c = by_test (fits q t k) t k refl c
-
   -- what a record counts as passes the test of the kind that it counts as
   pub counted_fits : (k : R) → fits q (kind_in q k) (counted q k) ≡ true
-  counted_fits k = (by_kind (q.of_code (q.code_in k)) k refl).0
-
-  -- a record with the code of a kind whose test it passes counts as that kind, and as itself
-  counts_as : (t : K) (k : R) → q.of_code (q.code_in k) ≡ Some t → fits q t k ≡ true → (kind_in q k ≡ t) × (counted q k ≡ k)
-  counts_as t k c e = (
-    ap (λ (o : Option K). kind_for q o k) c ∙ cond-true (fits q t k) t q.plain e,
-    ap (λ (o : Option K). record_for q o k) c ∙ cond-true (fits q t k) k (idle q) e,
-  )
+  counted_fits = counting.counted_fits q.code_in q.of_code (fits q) q.plain (idle q) idle_kind law.idle_fits
 
   -- a record with the same code that passes the same test is of the same kind, and counts as itself
   kept : (k p : R) → q.code_in p ≡ q.code_in (counted q k) → fits q (kind_in q k) p ≡ true → (kind_in q p ≡ kind_in q k) × (counted q p ≡ p)
-  kept k p same passes = counts_as (kind_in q k) p (ap q.of_code same ∙ (by_kind (q.of_code (q.code_in k)) k refl).1) passes
+  kept = counting.kept q.code_in q.of_code (fits q) q.plain (idle q) idle_kind law.idle_fits
 
   -- the next record is of the same kind, and counts as itself
   pub next_kept : (k : R) (x : Inputs S) → (kind_in q ((meaning_of q).next k x) ≡ kind_in q k) × (counted q ((meaning_of q).next k x) ≡ (meaning_of q).next k x)

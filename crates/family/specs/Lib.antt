@@ -1,4 +1,5 @@
 pub mod Params
 pub mod Laws
 pub mod Meaning
+pub mod Counts
 pub mod Rules

@@ -2,6 +2,7 @@
 use Rattle.std.specs.Prelude.{◌≡◌, ℕ, ◌≤◌, Bool, true, cond, not, ◌&&◌, List, ℤ, pos, is_some, Some, None, Option, option_map}
 use Rattle.family.specs.declared.values.Inputs.{Inputs}
 use Rattle.family.specs.declared.values.Params.{Params}
+use Rattle.family.specs.Counts.{kind_for, record_for}
 use Rattle.family.specs.Laws.{LateLaw}
 use Rattle.family.specs.Meaning.{Meaning}
 
@@ -45,21 +46,12 @@ module _ {K R S : Type 0} (q : Rules K R S) where
   abbrev pub idle : R
   idle = q.made (q.code q.plain) (record { p = pos 0; q = pos 0; r = pos 0 }) (pos 0)
 
-  -- the kind that a record counts as, where its code is that of the kind given, and the record as it counts
-  abbrev pub kind_for : Option K → R → K
-  kind_for None k = q.plain
-  kind_for (Some t) k = cond (fits t k) t q.plain
-
-  abbrev pub record_for : Option K → R → R
-  record_for None k = idle
-  record_for (Some t) k = cond (fits t k) k idle
-
-  -- the same for every record: itself where its kind's test lets it pass, else the idle one
+  -- the kind that a record counts as, and the record as it counts: itself where its kind's test lets it pass, else the idle one
   abbrev pub kind_in : R → K
-  kind_in k = kind_for (q.of_code (q.code_in k)) k
+  kind_in k = kind_for fits q.plain idle (q.of_code (q.code_in k)) k
 
   abbrev pub counted : R → R
-  counted k = record_for (q.of_code (q.code_in k)) k
+  counted k = record_for fits q.plain idle (q.of_code (q.code_in k)) k
 
   -- the first parameter that the kind of a code does not accept; none where there is no such kind
   abbrev pub bad_for : Option K → Params → Option ℕ

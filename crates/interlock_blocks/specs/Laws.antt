@@ -1,5 +1,5 @@
 -- What the family owes of its kinds, and so the laws of the family.
-use Rattle.std.specs.Prelude.{◌≡◌, ◌≤◌, Bool, true, false, cond, not, ℤ, pos, ◌+ℤ◌, Some, refl}
+use Rattle.std.specs.Prelude.{◌≡◌, ◌≤◌, Bool, true, false, cond, not, is_some, ℤ, pos, ◌+ℤ◌, Some, refl}
 use Rattle.std.specs.Int.{int_min}
 use Rattle.std.proofs.Common.{arith, rules}
 use Rattle.std.proofs.lemmas.Int.{ints}
@@ -13,7 +13,7 @@ use Rattle.family.proofs.Kept as kept
 use Rattle.interlock_blocks.specs.declared.record.Kind.{Kind}
 use Rattle.interlock_blocks.specs.declared.record.Kind.TheVariants.{In, And, Or, Not, Latch, Hold, Timer}
 use Rattle.interlock_blocks.specs.declared.record.InterlockRecord.{InterlockRecord}
-use Rattle.interlock_blocks.specs.Kinds.{kind_of, kind_code, ports_of, late_of, takes_of, limit_of}
+use Rattle.interlock_blocks.specs.Kinds.{kind_of, kind_code, ports_of, late_of, takes_of, bad_of, limit_of}
 use Rattle.interlock_blocks.specs.Interlocks.{bit, output_of, next_u, with_u, kinds, interlocks}
 
 -- a kind has at most three ports
@@ -40,12 +40,16 @@ count_among : (b : Bool) (p u : ℤ) → among (pos 1) p (pos 1000000) ≡ true 
 count_among true p u hp hu = grind (arith, nat_tests, ints)
 count_among false p u hp hu = refl
 
--- a record's state passes, and another one that the kind can have does
+-- the parameters pass, and the state passes
+params_pass : (t : Kind) (k : InterlockRecord) → fits kinds t k ≡ true → not (is_some (bad_of t k.params)) ≡ true
+params_pass t k h = (and_parts _ (among (pos 0) k.u (limit_of t)) h).0
+
 state_passes : (t : Kind) (k : InterlockRecord) → fits kinds t k ≡ true → among (pos 0) k.u (limit_of t) ≡ true
 state_passes t k h = (and_parts _ (among (pos 0) k.u (limit_of t)) h).1
 
+-- another state that the kind can have passes
 state_fits : (t : Kind) (k : InterlockRecord) (u : ℤ) → fits kinds t k ≡ true → among (pos 0) u (limit_of t) ≡ true → fits kinds t (with_u k u) ≡ true
-state_fits t k u h = and_from _ (among (pos 0) u (limit_of t)) (and_parts _ (among (pos 0) k.u (limit_of t)) h).0
+state_fits t k u h = and_from _ (among (pos 0) u (limit_of t)) (params_pass t k h)
 
 -- the next state passes
 next_passes : (t : Kind) (k : InterlockRecord) (x : Inputs Bool) → fits kinds t k ≡ true → among (pos 0) (next_u t k x) (limit_of t) ≡ true

@@ -7,12 +7,16 @@ use Rattle.std.specs.Str.{all_ascii_digits}
 use Rattle.std.proofs.lemmas.Bool.Decides.{nat_tests}
 use Rattle.std.proofs.lemmas.List.Elements.{All-from_get_or, All-cons}
 use Rattle.std.proofs.lemmas.List.Recursion.{and_at}
-use Rattle.std.proofs.lemmas.List.Splits.{slice_split_none, slice_split_at, join_with_byte-slice_split}
+use Rattle.std.proofs.lemmas.List.Splits.{slice_split_none, slice_split_at, length-slice_split, join_with_byte-slice_split}
 use Rattle.words.specs.Names.{all_name}
 use Rattle.words.specs.Parts.{is, words_of}
 use Rattle.words.proofs.Numerals.{is_numeral}
 use Rattle.loop_file.specs.Lines.{spaced}
 use Rattle.loop_file.specs.Orders.{Order, nothing, block, wire, cut, remove, tune, feed, scan, show, Number, Words}
+
+-- a line has a word
+pub no_words : (line : List ℕ) → words_of line ≡ [] → ⊥
+no_words line e = omega (arith, ap length (sym e), length-slice_split (is 32) line)
 
 -- a byte before the first of some words
 pub spaced_before : (x : ℕ) (w : List ℕ) (ws : List (List ℕ)) → spaced ((x ∷ w) ∷ ws) ≡ x ∷ spaced (w ∷ ws)

@@ -1,6 +1,7 @@
 -- One line of a file, and those after it.
-use Rattle.std.proofs.Common.{◌≡◌, ℕ, suc, ◌≤◌, Bool, true, false, cond, List, [], ◌∷◌, length, Bor, Some, None, Option, MatchOption, is_none, sym, refl, subst, arith}
+use Rattle.std.proofs.Common.{◌≡◌, ℕ, suc, ◌+◌, ◌<◌, ◌≤◌, Bool, true, false, cond, List, [], ◌∷◌, length, length-drop, get_or, drop, add-zero, ap, ◌∙◌, Bor, Some, None, Option, MatchOption, is_none, sym, refl, subst, arith}
 use Rattle.std.specs.List.{onto_first}
+use Rattle.std.proofs.lemmas.List.{drop-drop, get_or-drop}
 use Rattle.words.specs.Parts.{is, lines_of}
 use Rattle.loop_file.specs.Files.{NoneUnfit}
 use Rattle.loop_file.specs.declared.command.Command.{Command}
@@ -11,6 +12,14 @@ pub no_lines : (file : List ℕ) → length file ≡ 0 → 0 ≡ length (lines_o
 unfolding lines_of
 no_lines [] h = refl
 no_lines (x ∷ xs) h = absurd (omega arith)
+
+-- the line at a place, and the lines from the next place on
+pub line_at : (lines more : List (List ℕ)) (line : List ℕ) (n : ℕ) → drop n lines ≡ line ∷ more → (n < length lines) × (get_or lines n [] ≡ line) × (more ≡ drop (n + 1) lines)
+line_at lines more line n e = (
+  omega (arith, sym (length-drop n lines) ∙ ap length e),
+  ap (λ i. get_or lines i []) (sym (add-zero n)) ∙ sym (get_or-drop n lines 0 []) ∙ ap (λ ls. get_or ls 0 []) e,
+  sym (ap (drop 1) e) ∙ drop-drop 1 n lines,
+)
 
 -- where none is unfit, the first is not
 pub first_fits : (lines more : List (List ℕ)) (line : List ℕ) → lines ≡ line ∷ more → NoneUnfit lines → (Fits line → ⊥) → ⊥

@@ -14,8 +14,12 @@ pub(crate) fn count_lines(file: &[u8]) -> Result<u32, Refusal>
     if file.len() > 16384 {
         return Err(Refusal::FileTooLong);
     }
-    match Lines::of(file).position(|line| command_of(line).is_none()) {
-        Some(before) => Err(Refusal::BadLine(before as u32 + 1)),
-        None => Ok(Lines::of(file).count() as u32),
+    let mut lines = 0;
+    for (before, line) in Lines::of(file).enumerate() {
+        lines = before as u32 + 1;
+        if command_of(line).is_none() {
+            return Err(Refusal::BadLine(lines));
+        }
     }
+    Ok(lines)
 }

@@ -1,13 +1,13 @@
 -- What digits write.
-use Rattle.std.proofs.Common.{◌≡◌, ℕ, zero, suc, Bool, ◌+◌, ◌^◌, ◌<◌, ◌≤◌, true, false, ◌&&◌, Some, None, Ok, Result, Option, is_some, IfSome, MatchOption, Decides, ◌≢◌, List, ◌∷◌, length, get_or, drop, ℤ, pos, negsuc, nat_abs, decimal, sym, ap, ◌∙◌, subst, arith}
+use Rattle.std.proofs.Common.{◌≡◌, ℕ, zero, suc, Bool, ◌+◌, ◌-◌, ◌*◌, ◌^◌, ◌<◌, ◌≤◌, true, false, ◌&&◌, Some, None, Option, is_some, IfSome, MatchOption, Decides, ◌≢◌, List, [], ◌∷◌, length, get_or, drop, ℤ, pos, negsuc, nat_abs, decimal, sym, ap, ◌∙◌, subst, pow-suc, add-one, arith, rules}
+use native.Mathlib.Nat.{pow-le-pow_right}
 use Rattle.std.specs.Char.{is_ascii_digit, is_ascii_lowercase}
 use Rattle.std.specs.Fmt.{signed_decimal}
-use Rattle.std.specs.Str.{all_ascii_digits, IsUtf8}
-use Rattle.std.proofs.lemmas.Fmt.{decimal-digits_value, digits_decimal, decimal_nonempty, first_decimal, length-decimal-le, decimal_digit, IsAscii-from_digits}
+use Rattle.std.specs.Str.{all_ascii_digits}
+use Rattle.std.specs.Str.Parse.{digits_value}
+use Rattle.std.proofs.lemmas.Fmt.{decimal-digits_value, digits_decimal, decimal_nonempty, first_decimal, length-decimal-le, decimal_digit}
 use Rattle.std.proofs.lemmas.List.{at_drop_more}
-use Rattle.std.specs.Str.Parse.{digits_value, ParsesUnsigned}
-use Rattle.std.proofs.lemmas.Str.{IsUtf8-from_ascii}
-use Rattle.std.proofs.lemmas.Str.Parse.{IsNumeralModel, numerals_by_value, tells_all_ascii_digits, digits_value_short, parse_gives}
+use Rattle.std.proofs.lemmas.Str.Parse.{IsNumeralModel, numerals_by_value, numerals_by_fold, tells_all_ascii_digits}
 use Rattle.std.proofs.lemmas.Bool.Decides.{nat_tests}
 use Rattle.words.specs.Names.{IsName, Numeral, IsNumber}
 
@@ -15,17 +15,22 @@ use Rattle.words.specs.Names.{IsName, Numeral, IsNumber}
 pub own : IsNumeralModel (λ ds. all_ascii_digits ds ≡ true) (digits_value 10)
 own = numerals_by_value _ tells_all_ascii_digits
 
--- a numeral is small
-pub small : (s : List ℕ) → Numeral s → digits_value 10 s < 10 ^ 7
-small s h = digits_value_short own s 7 h.3 h.1
+-- the number that digits write after a number
+abbrev pub read_on : ℕ → List ℕ → ℕ
+read_on n [] = n
+read_on n (c ∷ cs) = read_on (n * 10 + (c - 48)) cs
 
--- a numeral is a text
-pub is_text : (s : List ℕ) → Numeral s → IsUtf8 s
-is_text s h = IsUtf8-from_ascii s (IsAscii-from_digits s (own.to s h.3))
+-- `read_on 0` reads it too, one digit after another
+by_digits : IsNumeralModel (λ ds. all_ascii_digits ds ≡ true) (read_on 0)
+by_digits = numerals_by_fold _ (search rules) read_on (search rules)
 
--- and `parse` reads it
-pub parses : {E : Type 0} (s t : List ℕ) (r : Result ℕ E) → Numeral s → t ≡ s → ParsesUnsigned 32 10 t r → r ≡ Ok (digits_value 10 s)
-parses {E = E} s t r h e p = parse_gives own 32 s r (subst (λ (u : List ℕ). ParsesUnsigned {E = E} 32 10 u r) e p) h.3 h.0 (omega (arith, small s h))
+-- one more digit
+pub below : (n d i : ℕ) → n < 10 ^ i → d ≤ 9 → n * 10 + d < 10 ^ (i + 1)
+below n d i h k = let e : 10 ^ (i + 1) ≡ 10 ^ i * 10 = ap (λ x. 10 ^ x) (add-one i) ∙ pow-suc 10 i in omega arith
+
+-- seven digits are enough
+pub small : (i : ℕ) → i ≤ 7 → 10 ^ i ≤ 10000000
+small i h = pow-le-pow_right (omega arith) h
 
 -- the byte at i is a digit, and so are those after it
 pub digit_here : (s : List ℕ) (i : ℕ) → i < length s → all_ascii_digits (drop i s) ≡ true → (48 ≤ get_or s i 0) × (get_or s i 0 ≤ 57) × (all_ascii_digits (drop (i + 1) s) ≡ true)
@@ -34,8 +39,8 @@ digit_here s i h a =
     (grind (arith, nat_tests, e), grind (arith, nat_tests, e), grind (arith, nat_tests, e))
 
 -- a numeral is what `decimal` writes of its value
-pub numeral_is : (s : List ℕ) → Numeral s → s ≡ decimal (digits_value 10 s)
-numeral_is s h = let k = small s h in sym (decimal-digits_value own s h.3 (omega arith) h.2 (omega arith))
+pub numeral_is : (s : List ℕ) → Numeral s → read_on 0 s < 10 ^ 7 → s ≡ decimal (read_on 0 s)
+numeral_is s h small = sym (decimal-digits_value by_digits s h.3 (omega arith) h.2 (omega arith))
 
 -- what `decimal` writes of a number of at most seven digits is a numeral
 pub is_numeral : (n : ℕ) → n ≤ 9999999 → Numeral (decimal n)

@@ -1,10 +1,11 @@
 -- Where a byte stands, and the first line or word before it.
-use Rattle.std.proofs.Common.{◌≡◌, ℕ, suc, ◌+◌, ◌<◌, ◌≤◌, Bool, true, false, not, cond, eqb, List, [], ◌∷◌, length, take, drop, refl, ap, ◌∙◌, arith, Bor, Some, None, Option, unwrap_or, MatchOption, subst, sym}
+use Rattle.std.proofs.Common.{min, ◌≡◌, ℕ, suc, ◌+◌, ◌<◌, ◌≤◌, Bool, true, false, not, cond, eqb, List, [], ◌∷◌, length, length-drop, take, drop, refl, ap, ◌∙◌, arith, Some, None, Option, MatchOption, subst, sym}
 use lib.Dec.{ltb}
 use Rattle.std.proofs.lemmas.Bool.{ltb-true, ltb-false}
-use Rattle.std.proofs.lemmas.List.{length-take-le, drop_all}
+use Rattle.std.proofs.lemmas.List.{drop-drop, drop_min}
+use Rattle.std.proofs.lemmas.List.Splits.{slice_split_first}
 use Rattle.std.specs.List.{position_or_len, before_first, after_first, onto_first}
-use Rattle.words.specs.Parts.{is, lines_of, words_of, Halves}
+use Rattle.words.specs.Parts.{is, lines_of, words_of, Parted, lines_left, words_left, past}
 
 -- a place n that was looked for below l, by what was found
 pub place : (n l : ℕ) (r : Option ℕ) → r ≡ cond (ltb n l) (Some n) None → MatchOption r (l ≤ n) (λ i. (i ≡ n) × (n < l))
@@ -48,20 +49,11 @@ unfolding lines_of
 no_line [] h = refl
 no_line (x ∷ xs) h = absurd (omega arith)
 
--- the first line and the others: the halves at a byte 10, or else all and nothing
-pub next_line : (d : Bor (List ℕ) × Bor (List ℕ)) (text : List ℕ) (r : Option (Bor (List ℕ) × Bor (List ℕ))) (t : Bor (List ℕ) × Bor (List ℕ)) → t ≡ unwrap_or r d → d.0.now ≡ text → d.1.now ≡ [] → 0 < length text
-    → MatchOption r (length text ≤ end text) (λ p. Halves 10 text p.0.now p.1.now) → lines_of text ≡ t.0.now ∷ lines_of t.1.now
-next_line d text (Some p) t u e f h m = first_line text m.0 ∙ (λ i. sym m.1 i ∷ lines_of (sym m.2 i)) ∙ (λ i. (sym u i).0.now ∷ lines_of (sym u i).1.now)
-next_line d text None t u e f h m = last_line text h m ∙ (λ i. sym e i ∷ sym (no_line _ (ap length f)) i) ∙ (λ i. (sym u i).0.now ∷ lines_of (sym u i).1.now)
-
--- and the others begin after the first and the byte that ends it
-pub next_rest : (d : Bor (List ℕ) × Bor (List ℕ)) (text : List ℕ) (r : Option (Bor (List ℕ) × Bor (List ℕ))) (t : Bor (List ℕ) × Bor (List ℕ)) → t ≡ unwrap_or r d → d.0.now ≡ text → d.1.now ≡ []
-    → MatchOption r (length text ≤ end text) (λ p. Halves 10 text p.0.now p.1.now) → t.1.now ≡ drop (length t.0.now + 1) text
-next_rest d text (Some p) t u e f m =
-    let l : length p.0.now ≡ end text = ap length m.1 ∙ length-take-le (end text) text (omega (arith, m.0)) in
-    (λ i. (u i).1.now) ∙ m.2 ∙ (λ i. drop (sym l i + 1) text) ∙ (λ i. drop (length (sym u i).0.now + 1) text)
-next_rest d text None t u e f m =
-    (λ i. (u i).1.now) ∙ f ∙ sym (drop_all (length d.0.now + 1) text (omega (arith, ap length e))) ∙ (λ i. drop (length (sym u i).0.now + 1) text)
+-- the line at a place of a file, and those after it
+pub line_here : (text part : List ℕ) (at on : ℕ) (last : Bool) → at < length text → Parted 10 text at part on last → lines_left text at ≡ part ∷ lines_left text on
+line_here text part at on true h p =
+    last_line (drop at text) (omega (arith, length-drop at text)) p.0 ∙ (λ i. sym p.1 i ∷ sym (no_line (drop on text) (omega (arith, p.2, length-drop on text))) i)
+line_here text part at on false h p = first_line (drop at text) p.2.0 ∙ (λ i. sym p.2.1 i ∷ lines_of (sym p.2.2 i))
 
 -- a line without a space is one word
 pub last_word : (xs : List ℕ) → length xs ≤ position_or_len (is 32) xs → words_of xs ≡ xs ∷ []
@@ -71,3 +63,17 @@ last_word (x ∷ xs) h = by (eqb x 32) (last_word xs) h
     by : (v : Bool) → (length xs ≤ position_or_len (is 32) xs → words_of xs ≡ xs ∷ []) → length (x ∷ xs) ≤ cond (not v) (1 + position_or_len (is 32) xs) 0 → cond v ([] ∷ words_of xs) (onto_first x (words_of xs)) ≡ (x ∷ xs) ∷ []
     by true ih h = absurd (omega arith)
     by false ih h = ap (onto_first x) (ih (omega arith))
+
+-- the word at a place of a line, and those after it
+pub word_here : (text part : List ℕ) (at on : ℕ) (over last : Bool) → over ≡ false → Parted 32 text at part on last → words_left text at over ≡ part ∷ words_left text on last
+word_here text part at on over last h p = ap (λ v. cond v [] (words_of (drop at text))) h ∙ by last p
+  where
+    by : (v : Bool) → Parted 32 text at part on v → words_of (drop at text) ≡ part ∷ words_left text on v
+    by true p = last_word (drop at text) p.0 ∙ ap (λ w. w ∷ []) (sym p.1)
+    by false p = slice_split_first (is 32) (drop at text) 0 p.2.0 ∙ (λ i. sym p.2.1 i ∷ words_of (sym p.2.2 i))
+
+-- what is left past a line or a word: all but this and the byte that ends it
+pub left_past : (text part : List ℕ) (at on : ℕ) → on ≡ past text at part → drop on text ≡ drop (length part + 1) (drop at text)
+left_past text part at on e =
+    let m : on ≡ min (at + (length part + 1)) (length text) = omega (arith, e) in
+    ap (λ k. drop k text) m ∙ drop_min (at + (length part + 1)) text ∙ sym (drop-drop (length part + 1) at text)

@@ -1,19 +1,18 @@
 -- What is yet to be given.
-use Rattle.std.specs.Prelude.{ℕ, List, [], Some, None, Option}
-use Rattle.std.specs.Borrow.{Bor}
-use Rattle.words.specs.Parts.{lines_of, words_of}
+use Rattle.std.specs.Prelude.{ℕ, List, drop}
+use Rattle.words.specs.Parts.{lines_left as lines_from, words_left as words_from}
 use Rattle.words.specs.declared.lines.Lines.{Lines}
 use Rattle.words.specs.declared.words.Words.{Words}
+use Rattle.words.specs.declared.reader.Reader.{Reader}
+
+-- what is left of a reader's text
+abbrev pub left : Reader → List ℕ
+left r = drop r.at r.text.now
 
 -- the lines that are left of a file
 abbrev pub lines_left : Lines → List (List ℕ)
-lines_left s = lines_of s.rest.now
-
--- the words of what is left of a line, if there is a rest
-abbrev pub words_in : Option (Bor (List ℕ)) → List (List ℕ)
-words_in None = []
-words_in (Some rest) = words_of rest.now
+lines_left s = lines_from s.reader.text.now s.reader.at
 
 -- the words that are left of a line: none once the last was given
 abbrev pub words_left : Words → List (List ℕ)
-words_left s = words_in s.rest
+words_left s = words_from s.reader.text.now s.reader.at s.reader.over

@@ -2,10 +2,12 @@
 #![tactic(auto)]
 
 mod lines;
+mod reader;
 mod split;
 mod word;
 mod words;
 
 pub use lines::Lines;
+pub use reader::Reader;
 pub use word::Word;
 pub use words::Words;

@@ -4,8 +4,6 @@ ghost use Rattle.std.specs.Str.{all_ascii_digits};
 ghost use Rattle.words.specs.Names.{all_name, IsName, Numeral, IsNumber};
 ghost use Rattle.words.specs.Words.{Reads};
 
-use std::str;
-
 /// A word of a file: a name is a part of the file.
 #[derive(Clone, Copy)]
 pub enum Word<'a> {
@@ -62,7 +60,11 @@ fn value(s: &[u8]) -> u32
     requires { Numeral s.now }
     ensures { (result ≤ 9999999) × (s.now ≡ decimal result) }
 {
-    str::from_utf8(s).unwrap().parse().unwrap()
+    let mut n = 0;
+    for digit in s {
+        n = n * 10 + u32::from(*digit - b'0');
+    }
+    n
 }
 
 // The number that the bytes write, without a sign.

@@ -1,24 +1,26 @@
 //! The words of a line, one after another.
-ghost use Rattle.std.specs.Prelude.{◌≡◌, ◌∷◌, Some, IfNone, ⊤};
+ghost use Rattle.std.specs.Prelude.{◌≡◌, false, IfNone, ⊤};
 ghost use Rattle.std.specs.Iterator.{YieldsFirstRef, MakesProgress, item_count};
 ghost use Rattle.words.specs.Parts.{words_of};
-ghost use Rattle.words.specs.Left.{words_in, words_left};
+ghost use Rattle.words.specs.Left.{words_left};
 
-use crate::split::split_once;
+use crate::reader::Reader;
 
-/// The words that are yet to be given, which stand between single spaces: parts of the line. Once the last was given there is no rest.
+/// The words that are yet to be given, which stand between single spaces: parts of the line.
 #[derive(Drop)]
 pub struct Words<'a> {
-    rest: Option<&'a [u8]>,
+    reader: Reader<'a>,
 }
 
 impl<'a> Words<'a> {
     /// The words of a line.
     pub fn of(line: &'a [u8]) -> Words<'a>
-        ensures rest { result.rest ≡ Some line.entry }
+        ensures rest { (result.reader.text ≡ line.entry) × (result.reader.at ≡ 0) × (result.reader.over ≡ false) }
         ensures words { words_left result ≡ words_of line.now }
     {
-        Words { rest: Some(line) }
+        Words {
+            reader: Reader::new(line),
+        }
     }
 }
 
@@ -34,18 +36,6 @@ impl<'a> Iterator for Words<'a> {
         ensures goes { MakesProgress (λ _. ⊤) (item_count words_left) self.old result self.new }
         ensures rest { IfNone result (self.new ≡ self.old) }
     {
-        let (word, rest) = first_word(self.rest?);
-        self.rest = rest;
-        Some(word)
-    }
-}
-
-// The first word of a line, and what follows its space, if there is one.
-fn first_word(line: &[u8]) -> (&[u8], Option<&[u8]>)
-    ensures { words_of line.now ≡ result.0.now ∷ words_in result.1 }
-{
-    match split_once(line, b' ') {
-        Some((word, rest)) => (word, Some(rest)),
-        None => (line, None),
+        self.reader.next_word()
     }
 }

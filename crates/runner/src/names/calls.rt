@@ -9,7 +9,7 @@ ghost use Rattle.runner.specs.View.{name_in, book, Lowest};
 
 use crate::names::{Entry, Names};
 use diagram::Diagram;
-use family::Family;
+use family::{Family, is_word};
 
 impl Entry {
     // An entry of a name.
@@ -31,7 +31,7 @@ impl Entry {
     fn is_of(&self, name: &[u8]) -> bool
         ensures { result ≡ bytes_eq (name_in self.now) name.now }
     {
-        &self.bytes[..self.size] == name
+        is_word(&self.bytes[..self.size], name)
     }
 }
 

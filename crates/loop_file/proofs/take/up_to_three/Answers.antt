@@ -9,6 +9,9 @@ use Rattle.loop_file.proofs.take.up_to_three.Goals as goal
 first_from : (zs : List ℤ) (i : ℕ) (z : ℤ) → z ≡ get_or zs (i + 0) (pos 0) → Number z → Number (get_or (drop i zs) 0 (pos 0))
 first_from zs i z e h = subst Number (e ∙ sym (get_or-drop i zs 0 (pos 0))) h
 
+pub returns-in_err-p : goal.returns-in_err-p
+returns-in_err-p c = rw c.from_residual.ensures (λ p q r n i j k. taken _ n.0 c.in_err-p.ensures n.5 (subst Number n.2 i))
+
 pub returns-in_err-q : goal.returns-in_err-q
 returns-in_err-q c = rw c.from_residual-in_err-q.ensures (λ p q r n i j k.
     taken _ (drop 1 n.0) c.in_err-q.ensures (followed _ _ _ n.0 c.in_ok-p.ensures n.5) (first_from n.0 1 q n.3 j))
