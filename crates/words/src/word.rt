@@ -14,6 +14,7 @@ pub enum Word<'a> {
 
 impl<'a> Word<'a> {
     /// What the bytes of a word are.
+    #[inline]
     pub fn of(bytes: &'a [u8]) -> Word<'a>
         ensures { Reads bytes.now result }
     {
